@@ -12,8 +12,9 @@ use Rattle.words_rule.specs.Phase.{Footing, footing_of}
 use Rattle.words_rule.specs.Rule.{Rule, bare, footings_in}
 use Rattle.words_rule.specs.Views.{blank}
 use Rattle.words_rule.proofs.Phases as phases
+use Rattle.words_rule.specs.FreeSlots.{FreeSlots}
 
-module _ {S : Type 0} (board : S → List (std.Option HeldEdge)) (free_slots : S → List ℕ) (memo : S → List ℕ) where
+module _ {S : Type 0} (board : S → List (std.Option HeldEdge)) (free_slots : S → FreeSlots) (memo : S → List ℕ) where
   abbrev RuleOf : State (std.Option S) View → Type 0
   RuleOf = Rule board free_slots memo
 

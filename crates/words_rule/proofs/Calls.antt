@@ -35,8 +35,9 @@ use Rattle.words_rule.proofs.StoreClauses.{step_take_slot}
 use Rattle.words_rule.proofs.NodeLoads.{loads_met}
 use Rattle.words_rule.proofs.NodeStores.{step_store_taken}
 use Rattle.words_rule.proofs.WalkSteps.{step_load_word}
+use Rattle.words_rule.specs.FreeSlots.{FreeSlots}
 
-module _ {S : Type 0} (board : S → List (std.Option Held)) (free_slots : S → List ℕ) (memo : S → List ℕ) where
+module _ {S : Type 0} (board : S → List (std.Option Held)) (free_slots : S → FreeSlots) (memo : S → List ℕ) where
   abbrev TheRule : State (std.Option S) View → Type 0
   TheRule = Rule board free_slots memo
 
@@ -122,10 +123,10 @@ module _ {S : Type 0} (board : S → List (std.Option Held)) (free_slots : S →
       (x.0, x.1, x.2, x.3, (dite (ℕ_discrete n 0) (λ hit. ap (λ (y : Sat). y.0.draws) (t.0 hit).1) (λ miss. ap (λ (y : Sat). y.0.draws) (t.1 miss)), t.0, t.1))
 
   pub call_take_slot : (slots id : ℕ) (me : Sat) (o : Own) (bits slot : ℕ) (list : List ℕ) (x : S) (word : Word) → me.0.draws.live ≡ true → me.0.shares.op ≡ shares.Held → me.1 ≡ (1, Some x) ∷ rest me.1
-      → me.0.hand.free ≡ Some (slot ∷ list) → free_slots x ≡ list → (me.0.hand.taken ≡ None) × (me.0.hand.loose ≡ None) → bits < 18446744073709551616 → IsWanted (known_of me.0 o) bits word
+      → me.0.hand.free ≡ Some (slot ∷ list) → (free_slots x).slots ≡ list → (free_slots x).room ≡ me.0.draws.slots → (me.0.hand.taken ≡ None) × (me.0.hand.loose ≡ None) → bits < 18446744073709551616 → IsWanted (known_of me.0 o) bits word
       → Allows TheRule slots id me 3 (λ _. 0) (λ _. slot_taken bits (step slots 3 0 0 none) me 0)
-  call_take_slot slots id me o bits slot list x word live share has free gave calm small wanted s r long at below =
-      let y = step_take_slot board free_slots memo slots id me o slot bits list x word live share has free gave (ap (option_map taken_of) calm.0, calm.1) small wanted s r long at below in
+  call_take_slot slots id me o bits slot list x word live share has free gave roomy calm small wanted s r long at below =
+      let y = step_take_slot board free_slots memo slots id me o slot bits list x word live share has free gave roomy (ap (option_map taken_of) calm.0, calm.1) small wanted s r long at below in
       (y.0, y.1, y.2, y.3, (λ q other its. subst (λ (p : ℕ). HasTaken bits p me (y.0, carried_after me.1 y.1)) (first slot q list other (sym free ∙ its)) y.4))
     where
       first : (a b : ℕ) (xs ys : List ℕ) → Some (a ∷ xs) ≡ Some (b ∷ ys) → a ≡ b

@@ -33,8 +33,9 @@ use Rattle.words_rule.proofs.Lists.{each_map, map_at, not_true}
 use Rattle.words_rule.proofs.Handling.{never}
 use Rattle.words_rule.proofs.Tallying.{total-has}
 use Rattle.words_rule.proofs.Sifting.{quiet}
+use Rattle.words_rule.specs.FreeSlots.{FreeSlots}
 
-module _ {S : Type 0} (board : S → List (std.Option Held)) (free_slots : S → List ℕ) (memo : S → List ℕ) where
+module _ {S : Type 0} (board : S → List (std.Option Held)) (free_slots : S → FreeSlots) (memo : S → List ℕ) where
   module _ (z : Shape) (ws : Words) (home : ℕ → Option (Option (std.Option S))) (vs : List View) (r : Parts board free_slots memo z ws home vs) (id : ℕ) (v : View) (at : get_elem? vs id ≡ some v) (is : v.draws.closing ≡ true) where
     here : get_elem? (draws_in vs) id ≡ some v.draws
     here = at_map (λ (u : View). u.draws) vs id v at

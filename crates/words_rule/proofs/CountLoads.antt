@@ -33,6 +33,7 @@ use Rattle.words_rule.proofs.Pinning.{parts_zero}
 use Rattle.words_rule.proofs.Stepping.{shape_is}
 use Rattle.words_rule.proofs.Tabling.{stays}
 use Rattle.words_rule.proofs.Tallying.{total-has}
+use Rattle.words_rule.specs.FreeSlots.{FreeSlots}
 
 -- a slot of which an edge is held denotes something
 denotes_held : (z : Shape) (function : ℕ → std.Option Denoted) (k : ℕ) (held : Held) → held.edge.index ≡ k → IsHeldBy z function held → (o : Denoted) × (function k ≡ Some o)
@@ -46,10 +47,10 @@ denotes_held z function k held at is = by (function k) refl
     by (Some o) e = (o, e)
     by None e = absurd (never held.edge.complement is.0 (ap (flipped held.edge.complement) (sym (ap function at ∙ e)) ∙ is.1))
 
-module _ {S : Type 0} (board : S → List (std.Option Held)) (free_slots : S → List ℕ) (memo : S → List ℕ) where
+module _ {S : Type 0} (board : S → List (std.Option Held)) (free_slots : S → FreeSlots) (memo : S → List ℕ) where
   module _ (z : Shape) (ws : Words) (home : ℕ → Option (Option (std.Option S))) (vs : List View) (r : Parts board free_slots memo z ws home vs) (id : ℕ) (v : View) (at : get_elem? vs id ≡ some v) (holding : v.shares.order ≡ Holding) where
     -- so does one that is counted, and not by a pin of the holder's own
-    counted_denotes : (k : ℕ) → times k v.counts.pins ≡ 0 → 0 < count_of (ws.count k) → (o : Denoted) × (r.function k ≡ Some o)
+    pub counted_denotes : (k : ℕ) → times k v.counts.pins ≡ 0 → 0 < count_of (ws.count k) → (o : Denoted) × (r.function k ≡ Some o)
     counted_denotes k unpinned lt = dite (dec_lt 0 (cells_count k r.cells))
         (λ some_cell. let c = cell_some z r.function k r.cells r.kept.cells_kept some_cell in denotes_held z r.function k c.1 c.3 c.4)
         (λ no_cell. by_view (total_some (refs k) (tallies_in vs) (let c = r.counts.counted k in omega (arith, c, lt, no_cell))))
@@ -82,7 +83,7 @@ module _ {S : Type 0} (board : S → List (std.Option Held)) (free_slots : S →
         some_same a b e = cc
 
     -- what is found at 0 is nobody's
-    none_own : (k : ℕ) → count_of (ws.count k) ≡ 0 → refs k (tally_of v) ≡ 0
+    pub none_own : (k : ℕ) → count_of (ws.count k) ≡ 0 → refs k (tally_of v) ≡ 0
     none_own k zero_it =
         let has = total-has (refs k) (tallies_in vs) id (tally_of v) (at_map tally_of vs id v at) in
         let counted = r.counts.counted k in omega (arith, has, counted, zero_it)

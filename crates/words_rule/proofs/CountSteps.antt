@@ -31,17 +31,18 @@ use Rattle.words_rule.proofs.Stepping.{shape_is, parts_raise, parts_raise_row, p
 use Rattle.words_rule.proofs.Pinning.{parts_pin, parts_unpin}
 use Rattle.words_rule.proofs.Meeting.{content_true}
 use Rattle.words_rule.proofs.Tabling.{after_word}
+use Rattle.words_rule.specs.FreeSlots.{FreeSlots}
 
-up_count : (n : ℕ) → n < 18446744073709551616 → count_of n ≤ 2 ^ 31 + 320 → count_of ((n + 1) % 2 ^ 64) ≡ suc (count_of n)
+pub up_count : (n : ℕ) → n < 18446744073709551616 → count_of n ≤ 2 ^ 31 + 320 → count_of ((n + 1) % 2 ^ 64) ≡ suc (count_of n)
 up_count n lt few = omega (arith, lt, few)
 
-up_generation : (n : ℕ) → n < 18446744073709551616 → count_of n ≤ 2 ^ 31 + 320 → generation_of ((n + 1) % 2 ^ 64) ≡ generation_of n
+pub up_generation : (n : ℕ) → n < 18446744073709551616 → count_of n ≤ 2 ^ 31 + 320 → generation_of ((n + 1) % 2 ^ 64) ≡ generation_of n
 up_generation n lt few = omega (arith, lt, few)
 
-down_count : (n : ℕ) → n < 18446744073709551616 → 0 < count_of n → suc (count_of ((n + (2 ^ 64 - 1)) % 2 ^ 64)) ≡ count_of n
+pub down_count : (n : ℕ) → n < 18446744073709551616 → 0 < count_of n → suc (count_of ((n + (2 ^ 64 - 1)) % 2 ^ 64)) ≡ count_of n
 down_count n lt some_one = omega (arith, lt, some_one)
 
-down_generation : (n : ℕ) → n < 18446744073709551616 → 0 < count_of n → generation_of ((n + (2 ^ 64 - 1)) % 2 ^ 64) ≡ generation_of n
+pub down_generation : (n : ℕ) → n < 18446744073709551616 → 0 < count_of n → generation_of ((n + (2 ^ 64 - 1)) % 2 ^ 64) ≡ generation_of n
 down_generation n lt some_one = omega (arith, lt, some_one)
 
 counted_row : (k : ℕ) (rows : List Row) (j : ℕ) (row : Row) → get_elem? rows j ≡ some row → row.held.edge.index ≡ k → 0 < row_count k rows
@@ -50,7 +51,7 @@ counted_row k (x ∷ rows) zero row at is =
     let e : one_if (x.held.edge.index == k) ≡ 1 = ap one_if (eq-eqb x.held.edge.index k (ap (λ (y : Row). y.held.edge.index) (some-injective x row at) ∙ is)) in omega (arith, e)
 counted_row k (x ∷ rows) (suc j) row at is = let later = counted_row k rows j row at is in omega (arith, later)
 
-module _ {S : Type 0} (board : S → List (std.Option Held)) (free_slots : S → List ℕ) (memo : S → List ℕ) (slots id : ℕ) (me : Me (std.Option S) View) (live : me.0.draws.live ≡ true) where
+module _ {S : Type 0} (board : S → List (std.Option Held)) (free_slots : S → FreeSlots) (memo : S → List ℕ) (slots id : ℕ) (me : Me (std.Option S) View) (live : me.0.draws.live ≡ true) where
   abbrev PartsOf : Shape → Words → (ℕ → Option (Option (std.Option S))) → List View → Type 0
   PartsOf = Parts board free_slots memo
 
@@ -58,52 +59,52 @@ module _ {S : Type 0} (board : S → List (std.Option Held)) (free_slots : S →
   TheRule = Rule board free_slots memo
 
   module _ (s : State (std.Option S) View) (r : TheRule s) (at : get_elem? s.views id ≡ some me.0) (k : ℕ) (inside : k < me.0.draws.slots) where
-    abbrev ws : Words
+    abbrev pub ws : Words
     ws = words_of r.shape s.words
 
-    abbrev home : ℕ → Option (Option (std.Option S))
+    abbrev pub home : ℕ → Option (Option (std.Option S))
     home = λ j. get_elem? s.homes j
 
-    abbrev word : ℕ
+    abbrev pub word : ℕ
     word = count_at (shape_in me.0.draws) k
 
-    abbrev n : ℕ
+    abbrev pub n : ℕ
     n = get_or s.words word 0
 
-    shape : r.shape ≡ shape_in me.0.draws
+    pub shape : r.shape ≡ shape_in me.0.draws
     shape = shape_is board free_slots memo r.shape ws home s.views r.parts id me.0 at live
 
-    below : k < r.shape.slots
+    pub below : k < r.shape.slots
     below = subst (λ (y : Shape). k < y.slots) (sym shape) inside
 
-    word_is : count_at r.shape k ≡ word
+    pub word_is : count_at r.shape k ≡ word
     word_is = ap (λ (y : Shape). count_at y k) shape
 
-    is_count : ws.count k ≡ n
+    pub is_count : ws.count k ≡ n
     is_count = here_count r.shape s.words 0 k below ∙ ap (λ i. get_or s.words i 0) word_is
 
-    few : count_of n ≤ 2 ^ 31 + 320
+    pub few : count_of n ≤ 2 ^ 31 + 320
     few = subst (λ (x : ℕ). count_of x ≤ 2 ^ 31 + 320) is_count (counts_small ws.count r.parts.cells (tallies_in s.views) r.parts.counts k)
 
     -- the count word becomes new, and the view this
-    ends : (new : ℕ) (w : View) → PartsOf r.shape (record ws { count = put_at ws.count k new }) home (set s.views id w) → TheRule (record { words = set s.words word new; homes = s.homes; views = set s.views id w })
+    pub ends : (new : ℕ) (w : View) → PartsOf r.shape (record ws { count = put_at ws.count k new }) home (set s.views id w) → TheRule (record { words = set s.words word new; homes = s.homes; views = set s.views id w })
     ends new w parts = after_word board free_slots memo s r word new (set s.views id w) s.homes (record ws { count = put_at ws.count k new }) refl
         (ap (λ i. words_of r.shape (set s.words i new)) (sym word_is) ∙ set_count r.shape s.words new k below r.wide) parts
 
     -- its count and generation then, and those of the others
-    new_count : (new c : ℕ) → count_of new ≡ c → count_of (put_at ws.count k new k) ≡ c
+    pub new_count : (new c : ℕ) → count_of new ≡ c → count_of (put_at ws.count k new k) ≡ c
     new_count new c is = ap count_of (put_at-same ws.count k new) ∙ is
 
-    others : (new : ℕ) (j : ℕ) → j ≢ k → put_at ws.count k new j ≡ ws.count j
+    pub others : (new : ℕ) (j : ℕ) → j ≢ k → put_at ws.count k new j ≡ ws.count j
     others new j apart = put_at-other ws.count k j new apart
 
-    still : (new : ℕ) → generation_of new ≡ generation_of n → (j : ℕ) → generation_of (put_at ws.count k new j) ≡ generation_of (ws.count j)
+    pub still : (new : ℕ) → generation_of new ≡ generation_of n → (j : ℕ) → generation_of (put_at ws.count k new j) ≡ generation_of (ws.count j)
     still new same j = dite (ℕ_discrete j k)
         (λ is. ap (λ (x : ℕ). generation_of (put_at ws.count k new x)) is ∙ ap generation_of (put_at-same ws.count k new) ∙ same ∙ ap generation_of (sym is_count) ∙ ap (λ (x : ℕ). generation_of (ws.count x)) (sym is))
         (λ apart. ap generation_of (others new j apart))
 
     -- who holds it counts
-    held_some : 0 < refs k (tally_of me.0) → 0 < count_of n
+    pub held_some : 0 < refs k (tally_of me.0) → 0 < count_of n
     held_some some_ref =
         let has = total-has (refs k) (tallies_in s.views) id (tally_of me.0) (at_map tally_of s.views id me.0 at) in
         let counted = r.parts.counts.counted k in

@@ -21,6 +21,7 @@ use Rattle.words_rule.specs.Plays.{empty_given}
 use Rattle.words_rule.proofs.Lists.{set_at}
 use Rattle.words_rule.proofs.Tabling.{gives_free_list, set_set}
 use Rattle.words_rule.proofs.Working.{rule_work}
+use Rattle.words_rule.specs.FreeSlots.{FreeSlots}
 
 some_denoted : (a b : Denoted) → Some a ≡ Some b → a ≡ b
 some_denoted a b e = cc
@@ -36,7 +37,7 @@ is_due w new (jobs.Node v hi lo) may is = λ k can.
     is ∙ ap (λ (j : Kind). Some (function_of j (node_values j w v hi lo))) same
 is_due w new (jobs.Leaf x) may is = is
 
-module _ {S : Type 0} (board : S → List (std.Option Held)) (free_slots : S → List ℕ) (memo : S → List ℕ) where
+module _ {S : Type 0} (board : S → List (std.Option Held)) (free_slots : S → FreeSlots) (memo : S → List ℕ) where
   abbrev TheRule : State (std.Option S) View → Type 0
   TheRule = Rule board free_slots memo
 
@@ -44,10 +45,10 @@ module _ {S : Type 0} (board : S → List (std.Option Held)) (free_slots : S →
   Sat = Me (std.Option S) View
 
   -- the free list goes back empty, and any function is noted as due
-  pub step_give_empty : (slots id : ℕ) (me : Sat) (x : S) (due : std.Option Function) → me.0.draws.live ≡ true → me.1 ≡ (1, Some x) ∷ rest me.1 → me.0.hand.free ≡ Some [] → free_slots x ≡ []
+  pub step_give_empty : (slots id : ℕ) (me : Sat) (x : S) (due : std.Option Function) → me.0.draws.live ≡ true → me.1 ≡ (1, Some x) ∷ rest me.1 → me.0.hand.free ≡ Some [] → (free_slots x).slots ≡ [] → (free_slots x).room ≡ me.0.draws.slots
       → Allows TheRule slots id me 3 (λ _. 0) (empty_given due (step slots 3 0 0 none) me)
-  step_give_empty slots id me x due live has free gave s r long at small =
-      let y = gives_free_list board free_slots memo slots id me [] x live has free gave s r long at small in
+  step_give_empty slots id me x due live has free gave roomy s r long at small =
+      let y = gives_free_list board free_slots memo slots id me [] x live has free gave roomy s r long at small in
       let u : View = y.0 in
       let w : View = record u { work = record me.0.work { fulls = risen me.0.work.fulls; due = due } } in
       let s1 : State (std.Option S) View = stepped s 3 0 id me.1 u y.1 in

@@ -1,7 +1,7 @@
 -- A slot is freed under the full hold.
 use Rattle.std.proofs.Common.{◌≡◌, ◌≢◌, ℕ, ◌+◌, ◌<◌, ◌==◌, List, length, [], ◌∷◌, set, refl, ap, sym, subst, ◌∙◌, inr, arith, eq-eqb, true}
 use Rattle.std.specs.Prelude as std
-use Rattle.std.specs.Prelude.{Some, None}
+use Rattle.std.specs.Prelude.{Some, None, option_map}
 use mathlib.Core.Option.{Option, some}
 use lib.ListN.{get_elem?}
 use Rattle.atomic_table.proofs.Lists.{at_map}
@@ -20,7 +20,6 @@ use Rattle.edge_bits.specs.declared.words.Word.TheVariants.{Inner}
 use Rattle.node_store.specs.Changes.{put_at, CanFree, without}
 use Rattle.node_store.proofs.Rewriting.{put_at-same, put_at-other}
 use Rattle.node_store.proofs.Freeing.{freed_sound}
-use Rattle.words_rule.specs.declared.view.SeenWord.{SeenWord}
 use Rattle.words_rule.specs.declared.view.Held.{Held}
 use Rattle.words_rule.specs.declared.view.Row.{Row}
 use Rattle.words_rule.specs.declared.view.Hand.{Hand}
@@ -33,15 +32,19 @@ use Rattle.words_rule.specs.Hands.{Tables, freeing}
 use Rattle.words_rule.specs.Seen.{StandsSo}
 use Rattle.words_rule.specs.Rule.{Parts, tallies_in, hands_in}
 use Rattle.words_rule.proofs.Seeing.{seen_alone}
-use Rattle.words_rule.proofs.Lists.{each_both}
 use Rattle.words_rule.proofs.Tallying.{total-has}
 use Rattle.words_rule.proofs.Handling.{never as no_some, frees_it}
 use Rattle.words_rule.proofs.Linking.{words_it, hand_links}
 use Rattle.words_rule.proofs.Layouts.{content_set}
 use Rattle.words_rule.proofs.Draws.{by_full}
-use Rattle.words_rule.proofs.Handed.{handed, parts_hand}
-use Rattle.words_rule.proofs.Rewrites.{order_by_full, nobody_takes, nobody_keeps}
+use Rattle.words_rule.proofs.Handed.{moved, parts_moved}
+use Rattle.words_rule.proofs.Rewrites.{order_by_full, holders_now, nobody_takes, nobody_keeps}
+use Rattle.words_rule.specs.Halves.{half_in, pair_of}
+use Rattle.words_rule.specs.declared.view.Known.{Known}
+use Rattle.words_rule.specs.declared.view.Neighbours.{Neighbours}
+use Rattle.words_rule.specs.Views.{orders_of, told_orders}
 use Rattle.words_rule.proofs.Remembering.{remembered_still}
+use Rattle.words_rule.specs.FreeSlots.{FreeSlots}
 
 -- generations are no matter of this part
 pub sound_whatever : (w : Content) (g : ℕ → ℕ) → IsSound w → IsSound (record w { generation = g })
@@ -75,7 +78,7 @@ module _ (z : Shape) (function : ℕ → std.Option Denoted) (s : ℕ) where
   gone : ℕ → std.Option Denoted
   gone = put_at function s None
 
-  still : (held : Held) → held.edge.index ≢ s → IsHeldBy z function held → IsHeldBy z (put_at function s None) held
+  pub still : (held : Held) → held.edge.index ≢ s → IsHeldBy z function held → IsHeldBy z (put_at function s None) held
   still held off is = (is.0, ap (flipped held.edge.complement) (put_at-other function s held.edge.index None off) ∙ is.1, is.2)
 
   not_one : (a n : ℕ) → one_if (a == s) + n ≡ 0 → (a ≢ s) × (n ≡ 0)
@@ -127,17 +130,18 @@ module _ (w : Content) (sound : IsSound w) where
       let n = sound.nodes s (projection_node v) d.0 word d.1 in
       d.1 ∙ ap std.Some (n.is ∙ projected v n.kind n.high n.low (sym sound.logic_one ∙ n.high_is) (ap (flipped true) (sym sound.logic_one) ∙ n.low_is))
 
-module _ {S : Type 0} (board : S → List (std.Option Held)) (free_slots : S → List ℕ) (memo : S → List ℕ) where
+module _ {S : Type 0} (board : S → List (std.Option Held)) (free_slots : S → FreeSlots) (memo : S → List ℕ) where
   abbrev PartsOf : Shape → Words → (ℕ → Option (Option (std.Option S))) → List View → Type 0
   PartsOf = Parts board free_slots memo
 
-  -- the free store: the computed table is in hand, the slot is on no chain, its count was found at 0 under the hold, and this seat has none of it; no node names it
+  -- the free store: the computed table is in hand, the slot is on no chain, its count was found at 0 under the hold, and this seat has none of it; no node names it, and the seat's notes no longer do
   pub parts_free : (z : Shape) (ws : Words) (home : ℕ → Option (Option (std.Option S))) (vs : List View) (r : PartsOf z ws home vs) (id : ℕ) (v : View) → get_elem? vs id ≡ some v
       → (s bits : ℕ) (list : List ℕ) → bits < 18446744073709551616 → CanFree (content_of z ws.node r.orders r.function r.half) s
       → v.shares.full ≡ Holding → v.hand.memo ≡ true → v.hand.taken ≡ None → v.hand.loose ≡ Some s → v.hand.free ≡ Some list
-      → 0 < times s v.counts.zeros → refs s (tally_of v) ≡ 0 → Each (λ (note : SeenWord). note.slot ≢ s) v.known.words → Each (λ (held : Held). held.edge.index ≢ s) v.known.seen → unpack_of bits ≡ None
-      → PartsOf z (record ws { node = put_at ws.node s bits }) home (set vs id (handed v (freeing s list v.hand)))
-  parts_free z ws home vs r id v at s bits list small can full has_memo none_taken loose free zeros mine unnoted unseen reads =
+      → 0 < times s v.counts.zeros → refs s (tally_of v) ≡ 0 → (known : Known) → orders_of known ≡ orders_of v.known → told_orders known ≡ told_orders v.known → known.pending ≡ v.known.pending → known.ages ≡ v.known.ages → known.half ≡ v.known.half
+      → Each (StandsSo (put_at ws.node s bits) v) known.words → Each (IsHeldBy z (put_at r.function s None)) known.seen → unpack_of bits ≡ None
+      → PartsOf z (record ws { node = put_at ws.node s bits }) home (set vs id (moved v (freeing s list v.hand) known))
+  parts_free z ws home vs r id v at s bits list small can full has_memo none_taken loose free zeros mine known orders told due ages same_half words seen reads =
       let w : Content = content_of z ws.node r.orders r.function r.half in
       let h : Hand = freeing s list v.hand in
       let nd : ℕ → ℕ = put_at ws.node s bits in
@@ -145,12 +149,14 @@ module _ {S : Type 0} (board : S → List (std.Option Held)) (free_slots : S →
       let new : Content = record w { word = put_at w.word s None; function = function } in
       let content : content_of z nd r.orders function r.half ≡ new = content_set z ws.node r.orders r.function function r.half r.half s bits None reads in
       let t = r.tied id v at in
+      let u : View = moved v h known in
+      let half_is : half_in known ≡ r.half = ap (option_map pair_of) same_half ∙ ((r.holders id v at).1 full).0 in
       let hand_at = at_map (λ (u : View). u.hand) vs id v at in
       let own = r.tables.loosened id v.hand hand_at s loose in
       let holding = order_by_full board free_slots memo z ws home vs r id v at full in
       let linked = words_it z ws.node ws.next ws.head r.on r.chain (hands_in vs) r.linked s bits small own.1 in
       let zero_now : count_of (ws.count s) ≡ 0 = r.counts.still id (tally_of v) (at_map tally_of vs id v at) s zeros ∙ mine in
-      parts_hand board free_slots memo z ws home vs r id v at h ws.free_turn ws.memo_turn ws.turn nd ws.next ws.head home function r.half r.on r.chain refl
+      parts_moved board free_slots memo z ws home vs r id v at h known ws.free_turn ws.memo_turn ws.turn nd ws.next ws.head home function r.half r.on r.chain refl orders told due
       (kept_freed z r.function s ws.count r.cells (tallies_in vs) r.counts zero_now
       (λ u lt same.
       let within : u < length r.orders.variables = subst (λ (n : ℕ). u < n) (sym r.positions.variables_long) lt in
@@ -165,8 +171,6 @@ module _ {S : Type 0} (board : S → List (std.Option Held)) (free_slots : S →
       (nobody_takes board free_slots memo z ws home vs r id v at holding none_taken)))
       (hand_links z nd ws.next ws.head r.on r.chain (hands_in vs) linked id h (λ k its. absurd (no_some k its)) (linked.walks id v.hand hand_at) (r.linked.wholes id v.hand hand_at))
       (record { zeros = t.zeros; pins = t.pins; taken = λ _. inr holding; alone = t.alone; dead = λ gone. absurd (no_some list (sym (t.dead gone).4 ∙ free)) })
-      (by_full (r.half ≡ None) vs id v (handed v h) at refl r.half_by)
-      (seen_alone z ws.node r.function vs r.seen id (handed v h) nd function (nobody_keeps board free_slots memo z ws home vs r id v at full) (record {
-        words = λ has. each_both (λ (note : SeenWord). note.slot ≢ s) (StandsSo ws.node v) (StandsSo nd (handed v h)) (λ note off st. (put_at-other ws.node s note.slot bits off ∙ st.0, st.1)) v.known.words unnoted ((r.seen id v at).words has);
-        held = λ has. each_both (λ (held : Held). held.edge.index ≢ s) (IsHeldBy z r.function) (IsHeldBy z function) (λ held off is. still z r.function s held off is) v.known.seen unseen ((r.seen id v at).held has);
-      }))
+      (by_full (r.half ≡ None) vs id v u at (ap (λ (n : std.Option Neighbours). (v.shares, n)) same_half) r.half_by)
+      (seen_alone z ws.node r.function vs r.seen id u nd function (nobody_keeps board free_slots memo z ws home vs r id v at full) (record { words = λ has. words; held = λ has. seen }))
+      (holders_now board free_slots memo z ws home vs r id v at u r.half r.pending full refl ages half_is (due ∙ ((r.holders id v at).1 full).1))

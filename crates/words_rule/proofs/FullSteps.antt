@@ -30,8 +30,9 @@ use Rattle.words_rule.proofs.PhaseSteps.{ends, here, home, low, n, ws}
 use Rattle.words_rule.proofs.Rewrites.{order_by_full, parts_known}
 use Rattle.words_rule.proofs.Stepping.{parts_full_hold, parts_full_out}
 use Rattle.words_rule.proofs.Tabling.{set_set, stays}
+use Rattle.words_rule.specs.FreeSlots.{FreeSlots}
 
-module _ {S : Type 0} (board : S → List (std.Option Held)) (free_slots : S → List ℕ) (memo : S → List ℕ) where
+module _ {S : Type 0} (board : S → List (std.Option Held)) (free_slots : S → FreeSlots) (memo : S → List ℕ) where
   module _ (z : Shape) (ws : Words) (home : ℕ → Option (Option (std.Option S))) (vs : List View) (r : Parts board free_slots memo z ws home vs) (id : ℕ) (v : View) (at : get_elem? vs id ≡ some v) where
     holds : (h : Hold) → 0 < hold h → h ≡ Holding
     holds Holding lt = refl
@@ -78,12 +79,14 @@ module _ {S : Type 0} (board : S → List (std.Option Held)) (free_slots : S →
           held = each_set (λ i (f : View). f.shares.order ≡ Holding → (orders_of f.known ≡ r.orders) × (told_orders f.known ≡ orders_from (opening_orders (sizes_for z.variables z.elements)) r.log)) vs id w (λ i f apart there. r.ordered.held i f there) (r.ordered.held id v at);
         })
         (inl half) (inl due) (record { words = (r.seen id v at).words; held = (r.seen id v at).held })
+        ((r.holders id v at).0, (λ _. (sym half, sym due))) (λ i y apart there. r.holders i y there)
 
     pub parts_full_taken : v.shares.full ≡ Claimed → walks_of ws.phase ≡ 0 → Parts board free_slots memo z (record ws { phase = ws.phase }) home (set vs id (record v { shares = with_full v.shares Holding ws.phase; known = unswapped v.known }))
+    unfolding parts_unswapped parts_known
     parts_full_taken claim none_seen =
         let w : View = record v { known = unswapped v.known } in
         subst (λ (l : List View). Parts board free_slots memo z (record ws { phase = ws.phase }) home l) (set_set vs id w (record w { shares = with_full v.shares Holding ws.phase }))
-        (parts_full_hold board free_slots memo z ws home (set vs id w) (parts_unswapped (none_half claim) (none_due claim)) id w (set_at vs id v w at) claim none_seen)
+        (parts_full_hold board free_slots memo z ws home (set vs id w) (parts_unswapped (none_half claim) (none_due claim)) id w (set_at vs id v w at) claim none_seen (sym (none_half claim), sym (none_due claim)))
 
     pub parts_full_left : v.shares.full ≡ Holding → v.known.half ≡ None → v.known.pending ≡ [] → Parts board free_slots memo z (record ws { phase = ws.phase - 8589934592 }) home (set vs id (record v { shares = with_full v.shares Free ws.phase }))
     parts_full_left full half due = parts_full_out board free_slots memo z ws home vs r id v at full (settled_half full half) (settled_due full due)

@@ -31,6 +31,7 @@ use Rattle.words_rule.proofs.Stepping.{shape_is}
 use Rattle.words_rule.proofs.Tabling.{stays, takes_turn, gives_turn, takes_free_list, stores_next}
 use Rattle.words_rule.proofs.Storing.{pushes_noted}
 use Rattle.words_rule.proofs.NodeLoads.{lists_back}
+use Rattle.words_rule.specs.FreeSlots.{FreeSlots}
 
 pub stands_at : (l : List ℕ) (s : ℕ) → steps.Lists l s → Stands l s
 stands_at [] s h = absurd h
@@ -65,7 +66,7 @@ pub record OnlyHand (v u : View) : Type 0 where
 pub same_view : {v u : View} → u ≡ v → OnlyHand v u
 same_view e = record { draws = ap (λ (x : View). x.draws) e; shares = ap (λ (x : View). x.shares) e; counts = ap (λ (x : View). x.counts) e; known = ap (λ (x : View). x.known) e }
 
-module _ {S : Type 0} (board : S → List (std.Option Held)) (free_slots : S → List ℕ) (memo : S → List ℕ) where
+module _ {S : Type 0} (board : S → List (std.Option Held)) (free_slots : S → FreeSlots) (memo : S → List ℕ) where
   abbrev TheRule : State (std.Option S) View → Type 0
   TheRule = Rule board free_slots memo
 
@@ -120,7 +121,7 @@ module _ {S : Type 0} (board : S → List (std.Option Held)) (free_slots : S →
   -- take_free: the clauses taken and missed; what is taken is the list
   abbrev pub TookFree : Own → Sat → ℕ → Sat → Type 0
   TookFree o m n m' =
-      (n ≡ 0 → (list : List ℕ) × (known_of m'.0 o ≡ knowing.handed (known_of m.0 o) (record (known_of m.0 o).hand { free = Some list })) × ((x : S) × (free_slots x ≡ list) × (m'.1 ≡ (1, Some x) ∷ m.1)))
+      (n ≡ 0 → (list : List ℕ) × (known_of m'.0 o ≡ knowing.handed (known_of m.0 o) (record (known_of m.0 o).hand { free = Some list })) × ((x : S) × ((free_slots x).slots ≡ list) × (m'.1 ≡ (1, Some x) ∷ m.1)))
       × (n ≢ 0 → known_of m'.0 o ≡ known_of m.0 o)
 
   pub step_take_free : (slots id : ℕ) (me : Sat) (o : Own) (new : ℕ) → me.0.draws.live ≡ true → new ≢ 0
@@ -131,7 +132,7 @@ module _ {S : Type 0} (board : S → List (std.Option Held)) (free_slots : S →
     x.2,
     x.3,
     (
-      (λ hit. let t = told.0 hit in (free_slots t.0, ap (λ (x : Sat). known_of x.0 o) t.1, (t.0, refl, ap (λ (x : Sat). x.1) t.1))),
+      (λ hit. let t = told.0 hit in ((free_slots t.0).slots, ap (λ (x : Sat). known_of x.0 o) t.1, (t.0, refl, ap (λ (x : Sat). x.1) t.1))),
       (λ miss. ap (λ (x : Sat). known_of x.0 o) (told.1 miss)),
     ),
   )
@@ -155,11 +156,11 @@ module _ {S : Type 0} (board : S → List (std.Option Held)) (free_slots : S →
   abbrev pub LoadedHead : ℕ → ℕ → Sat → ℕ → Sat → Type 0
   LoadedHead = HasLoaded {S = std.Option S}
 
-  first : (next : ℕ → ℕ) (link : ℕ) (ss : List ℕ) → Along next link ss → link ≡ steps.link_to ss
+  pub first : (next : ℕ → ℕ) (link : ℕ) (ss : List ℕ) → Along next link ss → link ≡ steps.link_to ss
   first next link [] a = a
   first next link (x ∷ xs) a = a.0
 
-  once_on : (l : List ℕ) → Once l → steps.Once l
+  pub once_on : (l : List ℕ) → Once l → steps.Once l
   once_on [] h = h
   once_on (x ∷ xs) h = ((λ again. h.0 (lists_back xs x again)), once_on xs h.1)
 

@@ -20,6 +20,7 @@ use Rattle.std.proofs.lemmas.Bool.{cases_lt}
 use Rattle.node_store.specs.Changes.{put_at}
 use Rattle.node_store.proofs.Rewriting.{put_at-other}
 use Rattle.words_rule.specs.Generations.{IsOfSlot}
+use Rattle.words_rule.specs.Holders.{AreHolders, IsHolder}
 use Rattle.words_rule.specs.declared.view.Held.{Held}
 use Rattle.words_rule.specs.declared.view.SeenWord.{SeenWord}
 use Rattle.words_rule.specs.declared.view.Hold.{Hold}
@@ -57,20 +58,28 @@ use Rattle.words_rule.proofs.Linking.{hand_links, links_it, words_it, head_withi
 use Rattle.words_rule.proofs.Draws.{frame, by_full, by_pending}
 use Rattle.words_rule.specs.Remembered.{Remembered}
 use Rattle.words_rule.proofs.Remembering.{remembered_still}
+use Rattle.words_rule.specs.FreeSlots.{FreeSlots}
 
 abbrev pub handed : View → Hand → View
 handed v h = record v { hand = h }
 
--- the orders' part speaks of draws and shares alone
-pub ordered_same : (now told : Orders) (vs : List View) (id : ℕ) (v w : View) → get_elem? vs id ≡ some v → w.known ≡ v.known → w.shares ≡ v.shares → Ordered now told vs → Ordered now told (set vs id w)
-ordered_same now told vs id v w at draws shares o = record {
+-- and what it knows
+abbrev pub moved : View → Hand → Known → View
+moved v h k = record v { hand = h; known = k }
+
+-- the orders' part speaks of orders and shares alone
+pub ordered_alike : (now told : Orders) (vs : List View) (id : ℕ) (v w : View) → get_elem? vs id ≡ some v → orders_of w.known ≡ orders_of v.known → told_orders w.known ≡ told_orders v.known → w.shares ≡ v.shares → Ordered now told vs → Ordered now told (set vs id w)
+ordered_alike now told vs id v w at knows tells shares o = record {
   settled = λ nobody. o.settled (λ i u there holding. dite (ℕ_discrete i id)
       (λ same. nobody id w (set_at vs id v w at) (ap (λ s. s.order) shares ∙ (ap (λ (y : View). y.shares.order) (some-injective v u (sym at ∙ (ap (λ j. get_elem? vs j) (sym same) ∙ there))) ∙ holding)))
       (λ apart. nobody i u (set_else vs id i w apart ∙ there) holding));
-  shared = each_set (λ _ (u : View). KnowsOrders now u) vs id w (λ i u apart there. o.shared i u there) (λ has. ap orders_of draws ∙ o.shared id v at (ap (λ s. s.op) (sym shares) ∙ has));
+  shared = each_set (λ _ (u : View). KnowsOrders now u) vs id w (λ i u apart there. o.shared i u there) (λ has. knows ∙ o.shared id v at (ap (λ s. s.op) (sym shares) ∙ has));
   held = each_set (λ i (u : View). u.shares.order ≡ Holding → (orders_of u.known ≡ now) × (told_orders u.known ≡ told)) vs id w (λ i u apart there. o.held i u there)
-      (λ holding. subst (λ (d : Known). (orders_of d ≡ now) × (told_orders d ≡ told)) (sym draws) (o.held id v at (ap (λ s. s.order) (sym shares) ∙ holding)));
+      (λ holding. let h = o.held id v at (ap (λ s. s.order) (sym shares) ∙ holding) in (knows ∙ h.0, tells ∙ h.1));
 }
+
+pub ordered_same : (now told : Orders) (vs : List View) (id : ℕ) (v w : View) → get_elem? vs id ≡ some v → w.known ≡ v.known → w.shares ≡ v.shares → Ordered now told vs → Ordered now told (set vs id w)
+ordered_same now told vs id v w at known shares o = ordered_alike now told vs id v w at (ap orders_of known) (ap told_orders known) shares o
 
 -- who has neither share nor hold is in the midst of nothing
 pub idle_of : (u : View) → Tied u → ((u.shares.op ≡ shares.Held) ⊎ (u.shares.order ≡ Holding) → ⊥) → IsIdle u.hand
@@ -80,7 +89,7 @@ idle_of u t none_has = (is_none u.hand.taken refl (λ x its. none_has (t.taken (
     is_none None e refuse = e
     is_none (Some x) e refuse = absurd (refuse x e)
 
-module _ {S : Type 0} (board : S → List (std.Option Held)) (free_slots : S → List ℕ) (memo : S → List ℕ) where
+module _ {S : Type 0} (board : S → List (std.Option Held)) (free_slots : S → FreeSlots) (memo : S → List ℕ) where
   abbrev PartsOf : Shape → Words → (ℕ → Option (Option (std.Option S))) → List View → Type 0
   PartsOf = Parts board free_slots memo
 
@@ -92,13 +101,15 @@ module _ {S : Type 0} (board : S → List (std.Option Held)) (free_slots : S →
         remembered_still memo (view_of (content_of z ws.node r.orders r.function r.half)) (view_of (content_of z nd r.orders function half)) ws.memo_turn (home 2) (home' 2) (hands_in vs) id v.hand h (at_map (λ (u : View). u.hand) vs id v at)
         (inl (record { vars = refl; elements = refl; level = refl; content = λ s f these is. grows s f is })) same flag r.remembered
 
-    -- the other parts stand by their frames
-    pub parts_hand : (h : Hand) (ft mt : ℕ) (tn nd nx hd : ℕ → ℕ) (home' : ℕ → Option (Option (std.Option S))) (function : ℕ → std.Option Denoted) (half : std.Option Pair) (on : ℕ → Bool) (chain : ℕ → List ℕ) → home' 0 ≡ home 0
+    -- the other parts stand by their frames, where what the seat knows of the orders stays
+    pub parts_moved : (h : Hand) (k : Known) (ft mt : ℕ) (tn nd nx hd : ℕ → ℕ) (home' : ℕ → Option (Option (std.Option S))) (function : ℕ → std.Option Denoted) (half : std.Option Pair) (on : ℕ → Bool) (chain : ℕ → List ℕ) → home' 0 ≡ home 0
+        → orders_of k ≡ orders_of v.known → told_orders k ≡ told_orders v.known → k.pending ≡ v.known.pending
         → Kept z function r.cells (tallies_in vs) → IsSound (content_of z nd r.orders function half) → Remembered memo (view_of (content_of z nd r.orders function half)) mt (home' 2) (set (hands_in vs) id h)
         → Tables free_slots z (content_of z nd r.orders function half) on ft tn home' (set (hands_in vs) id h) → Linked z nd nx hd on chain (set (hands_in vs) id h)
-        → Tied (handed v h) → (half ≡ None) ⊎ HalfHolder half (set vs id (handed v h)) → AreSeen z nd function (set vs id (handed v h)) → PartsOf z (record ws { free_turn = ft; memo_turn = mt; turn = tn; node = nd; next = nx; head = hd }) home' (set vs id (handed v h))
-    parts_hand h ft mt tn nd nx hd home' function half on chain same kept sound remembered tables linked tied half_by seen =
-        let w = handed v h in
+        → Tied (moved v h k) → (half ≡ None) ⊎ HalfHolder half (set vs id (moved v h k)) → AreSeen z nd function (set vs id (moved v h k)) → AreHolders ws.count half r.pending (set vs id (moved v h k))
+        → PartsOf z (record ws { free_turn = ft; memo_turn = mt; turn = tn; node = nd; next = nx; head = hd }) home' (set vs id (moved v h k))
+    parts_moved h k ft mt tn nd nx hd home' function half on chain same orders told due kept sound remembered tables linked tied half_by seen holders =
+        let w = moved v h k in
         let start : Sizes = sizes_for z.variables z.elements in
         let drawn : draws_in (set vs id w) ≡ draws_in vs = frame (λ (v : View). v.draws) vs id v w at refl in
         let tallied : tallies_in (set vs id w) ≡ tallies_in vs = frame tally_of vs id v w at refl in record {
@@ -114,7 +125,7 @@ module _ {S : Type 0} (board : S → List (std.Option Held)) (free_slots : S →
           counts = subst (Counted ws.count r.cells) (sym tallied) r.counts;
           kept = subst (Kept z function r.cells) (sym tallied) kept;
           on_board = subst (λ (y : Option (Option (std.Option S)) × List Draws). Board board ws.board_turn y.0 y.1 r.table r.cells) (λ i. (sym same i, sym drawn i)) r.on_board;
-          ordered = ordered_same r.orders (orders_from (opening_orders start) r.log) vs id v w at refl refl r.ordered;
+          ordered = ordered_alike r.orders (orders_from (opening_orders start) r.log) vs id v w at orders told refl r.ordered;
           sound = sound;
           remembered = subst (Remembered memo (view_of (content_of z nd r.orders function half)) mt (home' 2)) (sym (map-set (λ (v : View). v.hand) vs id w)) remembered;
           tables = subst (Tables free_slots z (content_of z nd r.orders function half) on ft tn home') (sym (map-set (λ (v : View). v.hand) vs id w)) tables;
@@ -126,10 +137,20 @@ module _ {S : Type 0} (board : S → List (std.Option Held)) (free_slots : S →
           pending = r.pending;
           positions = r.positions;
           sized = each_set (λ i (f : View). (f.draws.live ≡ true) ⊎ (f.draws.closing ≡ true) → f.draws.slots ≡ z.slots) vs id w (λ i f apart there. r.sized i f there) (r.sized id v at);
-          pending_by = by_pending r.pending vs id v w at refl refl r.pending_by;
+          pending_by = by_pending r.pending vs id v w at refl due r.pending_by;
           seen = seen;
+          holders = holders;
           generations = each_set (λ _ (u : View). Each (IsOfSlot ws.count u) u.counts.generations) vs id w (λ i u apart there. r.generations i u there) (r.generations id v at);
         }
+
+    -- where it knows what it did
+    pub parts_hand : (h : Hand) (ft mt : ℕ) (tn nd nx hd : ℕ → ℕ) (home' : ℕ → Option (Option (std.Option S))) (function : ℕ → std.Option Denoted) (on : ℕ → Bool) (chain : ℕ → List ℕ) → home' 0 ≡ home 0
+        → Kept z function r.cells (tallies_in vs) → IsSound (content_of z nd r.orders function r.half) → Remembered memo (view_of (content_of z nd r.orders function r.half)) mt (home' 2) (set (hands_in vs) id h)
+        → Tables free_slots z (content_of z nd r.orders function r.half) on ft tn home' (set (hands_in vs) id h) → Linked z nd nx hd on chain (set (hands_in vs) id h)
+        → Tied (handed v h) → AreSeen z nd function (set vs id (handed v h)) → PartsOf z (record ws { free_turn = ft; memo_turn = mt; turn = tn; node = nd; next = nx; head = hd }) home' (set vs id (handed v h))
+    parts_hand h ft mt tn nd nx hd home' function on chain same kept sound remembered tables linked tied seen =
+        parts_moved h v.known ft mt tn nd nx hd home' function r.half on chain same refl refl refl kept sound remembered tables linked tied (by_full (r.half ≡ None) vs id v (handed v h) at refl r.half_by) seen
+        (each_set (λ _ (u : View). IsHolder ws.count r.half r.pending u) vs id (handed v h) (λ i u apart there. r.holders i u there) (r.holders id v at))
 
     -- what the seats know of nodes stays, where no node word changes
     pub seen_here : (h : Hand) → AreSeen z ws.node r.function (set vs id (handed v h))
@@ -197,7 +218,7 @@ module _ {S : Type 0} (board : S → List (std.Option Held)) (free_slots : S →
         ] in
         let content : content_of z nd r.orders function r.half ≡ done w due = content_done z ws.node r.orders r.function r.half due bits reads in
         let t = r.tied id v at in
-        parts_hand g ws.free_turn ws.memo_turn ws.turn nd ws.next ws.head home function r.half r.on r.chain refl
+        parts_hand g ws.free_turn ws.memo_turn ws.turn nd ws.next ws.head home function r.on r.chain refl
         (kept_grows z r.function function r.cells (tallies_in vs) (λ s f e. job_kept w r.sound due taken s f e) r.kept)
         (subst IsSound (sym content) (job_sound w r.sound due taken)) (remembered_here g refl home refl nd function r.half (λ s f e. job_kept w r.sound due taken s f e))
         (subst (λ (c : Content). Tables free_slots z c r.on ws.free_turn ws.turn home (set (hands_in vs) id g)) (sym content)
@@ -208,7 +229,6 @@ module _ {S : Type 0} (board : S → List (std.Option Held)) (free_slots : S →
         (λ n its. (words_it z ws.node ws.next ws.head r.on r.chain (hands_in vs) r.linked (slot_of due) bits small off).walks id v.hand hand_at n its)
         (r.linked.wholes id v.hand hand_at))
         (record { zeros = t.zeros; pins = t.pins; taken = λ _. t.taken (λ idle. no_some due (sym idle.0 ∙ is)); alone = t.alone; dead = λ gone. absurd (no_some due (sym (t.dead gone).2.0 ∙ is)) })
-        (by_full (r.half ≡ None) vs id v (handed v g) at refl r.half_by)
         (seen_store z ws.node r.function vs r.seen id (handed v g) (slot_of due) bits function taken.free (λ q f e. job_kept w r.sound due taken q f e) (nobody_else (λ idle. no_some due (sym idle.0 ∙ is)))
         (record {
           words = λ has. each_both (λ (note : SeenWord). note.slot ≢ (slot_of due)) (StandsSo ws.node v) (StandsSo nd (handed v g)) (λ note off st. (put_at-other ws.node (slot_of due) note.slot bits off ∙ st.0, st.1)) v.known.words unnoted ((r.seen id v at).words has);
@@ -217,12 +237,12 @@ module _ {S : Type 0} (board : S → List (std.Option Held)) (free_slots : S →
 
     pub stored_function : (due : Job) (bits : ℕ) (small : bits < 18446744073709551616) (is : v.hand.taken ≡ Some due) (none_loose : v.hand.loose ≡ None) (unnoted : Each (λ (note : SeenWord). note.slot ≢ (slot_of due)) v.known.words) (reads : unpack_of bits ≡ Some (word_of due))
         → (parts_store due bits small is none_loose unnoted reads).function ≡ (done (content_of z ws.node r.orders r.function r.half) due).function
-    unfolding parts_store parts_hand
+    unfolding parts_store parts_hand parts_moved
     stored_function due bits small is none_loose unnoted reads = refl
 
     pub stored_orders : (due : Job) (bits : ℕ) (small : bits < 18446744073709551616) (is : v.hand.taken ≡ Some due) (none_loose : v.hand.loose ≡ None) (unnoted : Each (λ (note : SeenWord). note.slot ≢ (slot_of due)) v.known.words) (reads : unpack_of bits ≡ Some (word_of due))
         → (parts_store due bits small is none_loose unnoted reads).orders ≡ r.orders
-    unfolding parts_store parts_hand
+    unfolding parts_store parts_hand parts_moved
     stored_orders due bits small is none_loose unnoted reads = refl
 
     -- the store of a next word, at a slot that is taken or on no chain
@@ -230,11 +250,11 @@ module _ {S : Type 0} (board : S → List (std.Option Held)) (free_slots : S →
     parts_link s x own =
         let g : Hand = linking s x v.hand in
         let t = r.tied id v at in
-        parts_hand g ws.free_turn ws.memo_turn ws.turn ws.node (put_at ws.next s x) ws.head home r.function r.half r.on r.chain refl r.kept r.sound (remembered_here g refl home refl ws.node r.function r.half (λ s f is. is))
+        parts_hand g ws.free_turn ws.memo_turn ws.turn ws.node (put_at ws.next s x) ws.head home r.function r.on r.chain refl r.kept r.sound (remembered_here g refl home refl ws.node r.function r.half (λ s f is. is))
         (hands_it free_slots z (content_of z ws.node r.orders r.function r.half) r.on ws.free_turn ws.turn home (hands_in vs) r.tables id v.hand hand_at g refl refl refl refl (r.tables.walking id v.hand hand_at))
         (links_it z ws.node ws.next ws.head r.on r.chain (hands_in vs) r.linked id v.hand s x hand_at (own_off s own) (own_alone s own))
         (record { zeros = t.zeros; pins = t.pins; taken = t.taken; alone = t.alone; dead = t.dead })
-        (by_full (r.half ≡ None) vs id v (handed v g) at refl r.half_by) (seen_here g)
+        (seen_here g)
 
     -- The step of a head that finds the link which the slot has: the slot stands before the others then. What others know is of other levels.
     pub parts_push : (s link : ℕ) → v.hand.loose ≡ Some s → v.hand.link ≡ Some (record { slot = s; link = link }) → ws.head (head_of z (ws.node s)) ≡ link
@@ -245,7 +265,7 @@ module _ {S : Type 0} (board : S → List (std.Option Held)) (free_slots : S →
         let t = r.tied id v at in
         let mine = r.tables.loosened id v.hand hand_at s loose in
         let busy : IsIdle v.hand → ⊥ = λ idle. no_some s (sym idle.1 ∙ loose) in
-        parts_hand g ws.free_turn ws.memo_turn ws.turn ws.node ws.next (put_at ws.head (head_of z (ws.node s)) (suc s)) home r.function r.half (put_at r.on s true) (put_at r.chain (head_of z (ws.node s)) (s ∷ r.chain (head_of z (ws.node s)))) refl r.kept r.sound (remembered_here g refl home refl ws.node r.function r.half (λ s f is. is))
+        parts_hand g ws.free_turn ws.memo_turn ws.turn ws.node ws.next (put_at ws.head (head_of z (ws.node s)) (suc s)) home r.function (put_at r.on s true) (put_at r.chain (head_of z (ws.node s)) (s ∷ r.chain (head_of z (ws.node s)))) refl r.kept r.sound (remembered_here g refl home refl ws.node r.function r.half (λ s f is. is))
         (pushes_it free_slots z w r.on ws.free_turn ws.turn home (hands_in vs) r.tables id v.hand hand_at s loose)
         (heads_it z ws.node ws.next ws.head r.on r.chain (hands_in vs) r.linked id v.hand s link mine.2.0 hand_at loose linked mine.1 (r.tables.high s id mine.0) mine.2.1 (head_within z (ws.node s)) found
         (λ i h apart there n walk.
@@ -254,7 +274,7 @@ module _ {S : Type 0} (board : S → List (std.Option Held)) (free_slots : S →
           not_whole n.whole refl (λ whole. nobody_else busy i m.0 apart m.1 ((r.tied i m.0 m.1).alone n (ap (λ (y : Hand). y.walk) m.2 ∙ walk) whole)),
         )))
         (record { zeros = t.zeros; pins = t.pins; taken = λ _. t.taken busy; alone = λ n its. absurd (no_some n its); dead = λ gone. absurd (no_some s (sym (t.dead gone).2.1 ∙ loose)) })
-        (by_full (r.half ≡ None) vs id v (handed v g) at refl r.half_by) (seen_here g)
+        (seen_here g)
       where
         not_whole : {n : Bool} (b : Bool) → n ≡ b → (n ≡ true → ⊥) → n ≡ false
         not_whole true e refuse = absurd (refuse e)
@@ -266,11 +286,11 @@ module _ {S : Type 0} (board : S → List (std.Option Held)) (free_slots : S →
     parts_walk n share live level lt link rest whole =
         let g : Hand = record v.hand { walk = Some n } in
         let t = r.tied id v at in
-        parts_hand g ws.free_turn ws.memo_turn ws.turn ws.node ws.next ws.head home r.function r.half r.on r.chain refl r.kept r.sound (remembered_here g refl home refl ws.node r.function r.half (λ s f is. is))
+        parts_hand g ws.free_turn ws.memo_turn ws.turn ws.node ws.next ws.head home r.function r.on r.chain refl r.kept r.sound (remembered_here g refl home refl ws.node r.function r.half (λ s f is. is))
         (hands_it free_slots z (content_of z ws.node r.orders r.function r.half) r.on ws.free_turn ws.turn home (hands_in vs) r.tables id v.hand hand_at g refl refl refl refl (λ m its. subst (λ (m : Walk). HasLevel v.hand m.level) (some_same n m its) level))
         (head_loaded z ws.node ws.next ws.head r.on r.chain (hands_in vs) r.linked id g n (r.linked.links id v.hand hand_at) refl lt link rest)
         (record { zeros = t.zeros; pins = t.pins; taken = λ _. share; alone = λ m its is. whole (ap (λ (m : Walk). m.whole) (some_same n m its) ∙ is); dead = λ gone. absurd (true≢false (sym live ∙ gone)) })
-        (by_full (r.half ≡ None) vs id v (handed v g) at refl r.half_by) (seen_here g)
+        (seen_here g)
 
     -- A slot is taken off its chain under the order hold, by who has its level's turn and knows the whole chain: nobody else has a share or a hold.
     module _ (n : Walk) (s : ℕ) (ss : List ℕ) (word : Word) (walk : v.hand.walk ≡ Some n) (whole : n.whole ≡ true) (none_loose : v.hand.loose ≡ None) (reads : unpack_of (ws.node s) ≡ std.Some word) (level : HasLevel v.hand (level_of z word)) where
@@ -287,11 +307,11 @@ module _ {S : Type 0} (board : S → List (std.Option Held)) (free_slots : S →
       unlinked_with nx hd chain is_on linked =
           let g : Hand = loosening s v.hand in
           let t = r.tied id v at in
-          parts_hand g ws.free_turn ws.memo_turn ws.turn ws.node nx hd home r.function r.half (put_at r.on s false) chain refl r.kept r.sound (remembered_here g refl home refl ws.node r.function r.half (λ s f is. is))
+          parts_hand g ws.free_turn ws.memo_turn ws.turn ws.node nx hd home r.function (put_at r.on s false) chain refl r.kept r.sound (remembered_here g refl home refl ws.node r.function r.half (λ s f is. is))
           (loosens_it free_slots z (content_of z ws.node r.orders r.function r.half) r.on ws.free_turn ws.turn home (hands_in vs) r.tables id v.hand hand_at s word none_loose is_on (r.linked.used s is_on).0 reads level)
           linked
           (record { zeros = t.zeros; pins = t.pins; taken = λ _. inr (t.alone n walk whole); alone = λ m its. absurd (no_some m its); dead = λ gone. absurd (no_some n (sym (t.dead gone).2.2 ∙ walk)) })
-          (by_full (r.half ≡ None) vs id v (handed v g) at refl r.half_by) (seen_here g)
+          (seen_here g)
 
       -- the first: the head becomes its next word
       pub parts_unhead : n.rest ≡ s ∷ ss → PartsOf z (record ws { head = put_at ws.head n.head (ws.next s) }) home (set vs id (handed v (loosening s v.hand)))

@@ -18,6 +18,7 @@ use Rattle.words_rule.specs.Dues.{slot_of, word_of, job_function, IsToDo, IsWork
 use Rattle.words_rule.specs.Hands.{level_of, Stands, HasLevel, Owns, IsLoose, Tables, taking, with_level, without_level, storing, pushing, loosening, freeing}
 use Rattle.words_rule.proofs.Lists.{each_set, set_at}
 use Rattle.words_rule.proofs.Jobs.{unknown_job, jobs_apart}
+use Rattle.words_rule.specs.FreeSlots.{FreeSlots}
 
 by_eq : {P : Type 0} (a b : ℕ) → (a ≡ b → P) → (a ≢ b → P) → P
 by_eq a b yes_it no_it = dite (ℕ_discrete a b) yes_it no_it
@@ -51,7 +52,7 @@ turn_kept l (x ∷ xs) k m at = by_eq x l
     at_either more zero apart there = (subst (λ y. y ≢ l) (some-injective x m there) apart, (0, there))
     at_either more (suc k) apart there = let r = more k there in (r.0, (suc r.1.0, r.1.1))
 
-module _ {S : Type 0} (free_slots : S → List ℕ) (z : Shape) (w : Content) (on : ℕ → Bool) (free_turn : ℕ) (turn : ℕ → ℕ) (home : ℕ → Option (Option (std.Option S))) (hs : List Hand) (r : Tables free_slots z w on free_turn turn home hs) where
+module _ {S : Type 0} (free_slots : S → FreeSlots) (z : Shape) (w : Content) (on : ℕ → Bool) (free_turn : ℕ) (turn : ℕ → ℕ) (home : ℕ → Option (Option (std.Option S))) (hs : List Hand) (r : Tables free_slots z w on free_turn turn home hs) where
   abbrev Home : Type 0
   Home = ℕ → Option (Option (std.Option S))
 
@@ -215,8 +216,8 @@ module _ {S : Type 0} (free_slots : S → List ℕ) (z : Shape) (w : Content) (o
         }
 
     -- the free list is put back as it is
-    pub puts_back : (list : List ℕ) (home' : Home) (x : S) → h.free ≡ Some list → free_slots x ≡ list → home' 1 ≡ some (some (Some x)) → Tables free_slots z w on 0 turn home' (set hs id (record h { free = None }))
-    puts_back list home' x has gives there_now =
+    pub puts_back : (list : List ℕ) (home' : Home) (x : S) → h.free ≡ Some list → (free_slots x).slots ≡ list → (free_slots x).room ≡ z.slots → home' 1 ≡ some (some (Some x)) → Tables free_slots z w on 0 turn home' (set hs id (record h { free = None }))
+    puts_back list home' x has gives roomy there_now =
         let g : Hand = record h { free = None } in
         let mine = r.free_held id h at list has in record {
           free_now = r.free_now;
@@ -225,7 +226,7 @@ module _ {S : Type 0} (free_slots : S → List ℕ) (z : Shape) (w : Content) (o
           taker = r.taker;
           loose = r.loose;
           free_is = r.free_is;
-          free_home = λ zero_turn. (refl, x, there_now, gives ∙ mine.2);
+          free_home = λ zero_turn. (refl, x, there_now, gives ∙ mine.2, roomy);
           free_held = each_set (FreeHeld none 0 r.free_now) hs id g (λ i f apart there l its. absurd (apart (some-injective i id (sym (r.free_held i f there l its).0 ∙ mine.0)))) (λ l its. absurd (never l its));
           level_home = r.level_home;
           level_held = each_set (LevelHeld r.holder turn) hs id g (λ i f apart there. r.level_held i f there) (r.level_held id h at);
@@ -240,8 +241,8 @@ module _ {S : Type 0} (free_slots : S → List ℕ) (z : Shape) (w : Content) (o
 
     -- the free list is put back without its first slot, which is taken for what is due
     pub puts_free : (due : Job) (rest : List ℕ) (home' : Home) (x : S) → h.free ≡ Some ((slot_of due) ∷ rest) → h.taken ≡ None → IsToDo w due → HasLevel h (level_of z (word_of due)) → z.slots ≡ w.limit
-        → free_slots x ≡ rest → home' 1 ≡ some (some (Some x)) → Tables free_slots z w on 0 turn home' (set hs id (taking due h))
-    puts_free due rest home' x list none_taken is_due level slots gives there_now =
+        → (free_slots x).slots ≡ rest → (free_slots x).room ≡ z.slots → home' 1 ≡ some (some (Some x)) → Tables free_slots z w on 0 turn home' (set hs id (taking due h))
+    puts_free due rest home' x list none_taken is_due level slots gives roomy there_now =
         let g : Hand = taking due h in
         let mine = r.free_held id h at ((slot_of due) ∷ rest) list in
         let now : r.free_now ≡ (slot_of due) ∷ rest = sym mine.2 in
@@ -262,8 +263,58 @@ module _ {S : Type 0} (free_slots : S → List ℕ) (z : Shape) (w : Content) (o
                 (λ apart. let st = r.free_is.all s lt free (sym (put_at-other r.taker (slot_of due) s (some id) apart) ∙ none_now) in
                 behind s apart st.0 (ap (λ l. get_elem? l st.0) (sym now) ∙ st.1));
           };
-          free_home = λ zero_turn. (refl, x, there_now, gives);
+          free_home = λ zero_turn. (refl, x, there_now, gives, roomy);
           free_held = each_set (FreeHeld none 0 rest) hs id g (λ i f apart there l its. absurd (apart (some-injective i id (sym (r.free_held i f there l its).0 ∙ mine.0)))) (λ l its. absurd (never l its));
+          level_home = r.level_home;
+          level_held = each_set (LevelHeld r.holder turn) hs id g (λ i f apart there. r.level_held i f there) (r.level_held id h at);
+          taken = each_set (TakenBy w (put_at r.taker (slot_of due) (some id))) hs id g
+              (λ i f apart there b its. let t = r.taken i f there b its in
+              let off : (slot_of b) ≢ (slot_of due) = λ e. some-ne-none i (sym t.0 ∙ (ap r.taker e ∙ slot.2)) in (put_at-other r.taker (slot_of due) (slot_of b) (some id) off ∙ t.0, t.1, t.2))
+              (λ b its. subst (λ (b : Job). (put_at r.taker (slot_of due) (some id) (slot_of b) ≡ some id) × IsWork w b × HasLevel g (level_of z (word_of b))) (some_same due b its)
+              (put_at-same r.taker (slot_of due) (some id), record { fits = is_due; free = slot.1; within = subst (λ n. (slot_of due) < n) slots slot.0 }, level));
+          taken_by = λ s i is. by_eq s (slot_of due)
+              (λ is_it. (g, due, subst (λ (j : ℕ). get_elem? (set hs id g) j ≡ some g) (some-injective id i (sym (put_at-same r.taker (slot_of due) (some id)) ∙ (ap (put_at r.taker (slot_of due) (some id)) (sym is_it) ∙ is))) (set_at hs id h g at), refl, sym is_it))
+              (λ apart. let t = r.taken_by s i (sym (put_at-other r.taker (slot_of due) s (some id) apart) ∙ is) in
+              let off : i ≢ id = λ e. never t.1 (sym none_taken ∙ (ap (λ (f : Hand). f.taken) (some-injective h t.0 (sym at ∙ (ap (λ j. get_elem? hs j) (sym e) ∙ t.2))) ∙ t.3)) in
+              (t.0, t.1, set_else hs id i g off ∙ t.2, t.3, t.4));
+          loosened = each_set (Loosened w on r.loose) hs id g (λ i f apart there. r.loosened i f there) (r.loosened id h at);
+          loose_by = loose_back g refl;
+          high = r.high;
+          complete = r.complete;
+          walking = each_set Walking hs id g (λ i f apart there. r.walking i f there) (r.walking id h at);
+        }
+      where
+        behind : (s : ℕ) → s ≢ (slot_of due) → (k : ℕ) → get_elem? ((slot_of due) ∷ rest) k ≡ some s → Stands rest s
+        behind s apart zero e = absurd (apart (sym (some-injective (slot_of due) s e)))
+        behind s apart (suc k) e = (k, e)
+
+    -- its first slot is taken for what is due, and the rest of it stays in hand
+    pub takes_held : (due : Job) (rest : List ℕ) → h.free ≡ Some ((slot_of due) ∷ rest) → h.taken ≡ None → IsToDo w due → HasLevel h (level_of z (word_of due)) → z.slots ≡ w.limit
+        → Tables free_slots z w on free_turn turn home (set hs id (record h { free = Some rest; taken = Some due; link = None }))
+    takes_held due rest list none_taken is_due level slots =
+        let g : Hand = record h { free = Some rest; taken = Some due; link = None } in
+        let mine = r.free_held id h at ((slot_of due) ∷ rest) list in
+        let now : r.free_now ≡ (slot_of due) ∷ rest = sym mine.2 in
+        let first : get_elem? r.free_now 0 ≡ some (slot_of due) = ap (λ l. get_elem? l 0) now in
+        let slot = r.free_is.free 0 (slot_of due) first in
+        let later : (k s : ℕ) → get_elem? rest k ≡ some s → get_elem? r.free_now (suc k) ≡ some s = λ k s e. ap (λ l. get_elem? l (suc k)) now ∙ e in
+        let apart_slot : (k s : ℕ) → get_elem? rest k ≡ some s → s ≢ (slot_of due) = λ k s e is. let o = r.free_is.once (suc k) 0 s (later k s e) (first ∙ ap some (sym is)) in omega (arith, o) in record {
+          free_now = rest;
+          free_holder = r.free_holder;
+          holder = r.holder;
+          taker = put_at r.taker (slot_of due) (some id);
+          loose = r.loose;
+          free_is = record {
+            free = λ k s e. let f = r.free_is.free (suc k) s (later k s e) in (f.0, f.1, put_at-other r.taker (slot_of due) s (some id) (apart_slot k s e) ∙ f.2);
+            once = λ i j s a b. let o = r.free_is.once (suc i) (suc j) s (later i s a) (later j s b) in omega (arith, o);
+            all = λ s lt free none_now. by_eq s (slot_of due)
+                (λ is. absurd (some-ne-none id (sym (put_at-same r.taker (slot_of due) (some id)) ∙ (ap (put_at r.taker (slot_of due) (some id)) (sym is) ∙ none_now))))
+                (λ apart. let st = r.free_is.all s lt free (sym (put_at-other r.taker (slot_of due) s (some id) apart) ∙ none_now) in
+                behind s apart st.0 (ap (λ l. get_elem? l st.0) (sym now) ∙ st.1));
+          };
+          free_home = λ zero_turn. absurd (mine.1 zero_turn);
+          free_held = each_set (FreeHeld r.free_holder free_turn rest) hs id g
+              (λ i f apart there l its. absurd (apart (some-injective i id (sym (r.free_held i f there l its).0 ∙ mine.0)))) (λ l its. (mine.0, mine.1, sym (some_same rest l its)));
           level_home = r.level_home;
           level_held = each_set (LevelHeld r.holder turn) hs id g (λ i f apart there. r.level_held i f there) (r.level_held id h at);
           taken = each_set (TakenBy w (put_at r.taker (slot_of due) (some id))) hs id g

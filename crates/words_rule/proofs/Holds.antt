@@ -12,6 +12,7 @@ use Rattle.function_laws.specs.Tables.{Sizes}
 use Rattle.function_laws.specs.EntryOrders.{opening_orders, orders_from}
 use Rattle.function_laws.specs.SessionEntries.{Each}
 use Rattle.words_rule.specs.Generations.{IsOfSlot}
+use Rattle.words_rule.specs.Holders.{IsAge, IsHolder}
 use Rattle.words_rule.specs.declared.view.SeenWord.{SeenWord}
 use Rattle.words_rule.specs.declared.view.Held.{Held}
 use Rattle.words_rule.specs.declared.view.Hold.{Hold}
@@ -42,8 +43,9 @@ use Rattle.words_rule.proofs.Sifting.{steps_same, steps_quiet}
 use Rattle.words_rule.proofs.Draws.{frame, PendingBy}
 use Rattle.node_store.specs.Contents.{view_of}
 use Rattle.words_rule.specs.Remembered.{Remembered}
+use Rattle.words_rule.specs.FreeSlots.{FreeSlots}
 
-module _ {S : Type 0} (board : S → List (std.Option Held)) (free_slots : S → List ℕ) (memo : S → List ℕ) where
+module _ {S : Type 0} (board : S → List (std.Option Held)) (free_slots : S → FreeSlots) (memo : S → List ℕ) where
   abbrev PartsOf : Shape → Words → (ℕ → Option (Option (std.Option S))) → List View → Type 0
   PartsOf = Parts board free_slots memo
 
@@ -53,9 +55,9 @@ module _ {S : Type 0} (board : S → List (std.Option Held)) (free_slots : S →
         → Ordered r.orders (orders_from (opening_orders (sizes_for z.variables z.elements)) r.log) (set vs id (record v { shares = x; known = k; counts = c }))
         → Counted ws.count r.cells (set (tallies_in vs) id (tally_of (record v { shares = x; known = k; counts = c }))) → KeepsTally z r.function (tally_of (record v { shares = x; known = k; counts = c }))
         → Tied (record v { shares = x; known = k; counts = c }) → Sifts (sizes_for z.variables z.elements) r.log (set vs id (record v { shares = x; known = k; counts = c }))
-        → (r.half ≡ None) ⊎ HalfHolder r.half (set vs id (record v { shares = x; known = k; counts = c })) → PendingBy r.pending (set vs id (record v { shares = x; known = k; counts = c })) → IsSeen z ws.node r.function (record v { shares = x; known = k; counts = c }) → Each (IsOfSlot ws.count (record v { shares = x; known = k; counts = c })) c.generations
+        → (r.half ≡ None) ⊎ HalfHolder r.half (set vs id (record v { shares = x; known = k; counts = c })) → PendingBy r.pending (set vs id (record v { shares = x; known = k; counts = c })) → IsSeen z ws.node r.function (record v { shares = x; known = k; counts = c }) → Each (IsOfSlot ws.count (record v { shares = x; known = k; counts = c })) c.generations → IsHolder ws.count r.half r.pending (record v { shares = x; known = k; counts = c })
         → PartsOf z (record ws { phase = n }) home (set vs id (record v { shares = x; known = k; counts = c }))
-    parts_any x k c n phase ordered counted keeps_it tied sifts half_by pending_by is_seen right_now =
+    parts_any x k c n phase ordered counted keeps_it tied sifts half_by pending_by is_seen right_now holder =
         let w : View = record v { shares = x; known = k; counts = c } in
         let start : Sizes = sizes_for z.variables z.elements in
         let drawn : draws_in (set vs id w) ≡ draws_in vs = frame (λ (v : View). v.draws) vs id v w at refl in
@@ -85,6 +87,7 @@ module _ {S : Type 0} (board : S → List (std.Option Held)) (free_slots : S →
           sized = each_set (λ i (f : View). (f.draws.live ≡ true) ⊎ (f.draws.closing ≡ true) → f.draws.slots ≡ z.slots) vs id w (λ i f apart there. r.sized i f there) (r.sized id v at);
           half_by = half_by;
           pending_by = pending_by;
+          holders = each_set (λ _ (u : View). IsHolder ws.count r.half r.pending u) vs id w (λ i u apart there. r.holders i u there) holder;
           generations = each_set (λ _ (u : View). Each (IsOfSlot ws.count u) u.counts.generations) vs id w (λ i u apart there. r.generations i u there) (right_now);
           seen = seen_other z ws.node r.function vs r.seen id w is_seen;
         }
@@ -111,9 +114,9 @@ module _ {S : Type 0} (board : S → List (std.Option Held)) (free_slots : S →
         holds Claimed lt = absurd (omega (arith, lt))
 
     -- The claim becomes a hold once a look finds no operation share. The seat knows both orders then, and they are those that the entries leave.
-    pub parts_hold : (k : Known) → v.shares.order ≡ Claimed → ops_of ws.phase ≡ 0 → orders_of k ≡ r.orders → told_orders k ≡ r.orders → Each (λ (note : SeenWord). ws.node note.slot ≡ note.bits) k.words → Each (IsHeldBy z r.function) k.seen
+    pub parts_hold : (k : Known) → v.shares.order ≡ Claimed → ops_of ws.phase ≡ 0 → orders_of k ≡ r.orders → told_orders k ≡ r.orders → Each (λ (note : SeenWord). ws.node note.slot ≡ note.bits) k.words → Each (IsHeldBy z r.function) k.seen → Each (IsAge ws.count) k.ages
         → PartsOf z (record ws { phase = ws.phase }) home (set vs id (record v { shares = with_order v.shares Holding ws.phase; known = k; counts = v.counts }))
-    parts_hold k claimed none_seen knows tells words seen =
+    parts_hold k claimed none_seen knows tells words seen ages =
         let x = with_order v.shares Holding ws.phase in
         let w : View = record v { shares = x; known = k; counts = v.counts } in
         let start : Sizes = sizes_for z.variables z.elements in
@@ -135,6 +138,7 @@ module _ {S : Type 0} (board : S → List (std.Option Held)) (free_slots : S →
         (⊎_elim (λ none_half. inl none_half) (λ (y : HalfHolder r.half vs). absurd (not_full nobody y.0)) r.half_by)
         (⊎_elim (λ none_due. inl none_due) (λ (y : (h : FullHolder vs) × (h.1.known.pending ≡ r.pending)). absurd (not_full nobody y.0)) r.pending_by)
         (record { words = λ _. each_map (λ (note : SeenWord). ws.node note.slot ≡ note.bits) (StandsSo ws.node w) (λ note is. (is, λ _. refl)) k.words words; held = λ _. seen }) (r.generations id v at)
+        ((λ _. ages), (λ full. absurd (not_full nobody (id, v, at, full))))
 
     -- It is given up: nothing is pinned, no slot is taken, no swap is half made, and its entry told the orders. What it noted is forgotten.
     pub parts_unhold : v.shares.order ≡ Holding → v.shares.full ≡ Free → v.shares.op ≡ shares.Nothing → IsIdle v.hand → v.counts.pins ≡ [] → orders_of v.known ≡ told_orders v.known
@@ -168,6 +172,7 @@ module _ {S : Type 0} (board : S → List (std.Option Held)) (free_slots : S →
         (⊎_elim (λ none_half. inl none_half) (λ (y : HalfHolder r.half vs). absurd (no_full_holder y.0)) r.half_by)
         (⊎_elim (λ none_due. inl none_due) (λ (y : (h : FullHolder vs) × (h.1.known.pending ≡ r.pending)). absurd (no_full_holder y.0)) r.pending_by)
         (record { words = λ has. absurd (no_share has); held = λ (has : KeepsSlots w). ⊎_elim (λ share. absurd (no_share share)) (λ _. (r.seen id v at).held (inl (inr holding))) has }) (r.generations id v at)
+        ((λ other. absurd (free_not other)), (λ full. absurd (never (sym no_full ∙ full))))
       where
         never : Free ≡ Holding → ⊥
         never e = cc

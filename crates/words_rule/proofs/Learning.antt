@@ -27,6 +27,7 @@ use Rattle.words_rule.proofs.Lists.{each_set, set_at}
 use Rattle.words_rule.proofs.Draws.{by_full, by_pending}
 use Rattle.words_rule.proofs.Rewrites.{parts_known}
 use Rattle.words_rule.proofs.Storing.{edge_at}
+use Rattle.words_rule.specs.FreeSlots.{FreeSlots}
 
 -- a view with these notes
 abbrev pub with_notes : View → List SeenWord → List Held → View
@@ -102,7 +103,7 @@ pub all_both : (function : ℕ → std.Option Denoted) (l m : List ℕ) → AllH
 all_both function [] m a b = b
 all_both function (s ∷ l) m a b = (a.0, all_both function l m a.1 b)
 
-module _ {S : Type 0} (board : S → List (std.Option Held)) (free_slots : S → List ℕ) (memo : S → List ℕ) where
+module _ {S : Type 0} (board : S → List (std.Option Held)) (free_slots : S → FreeSlots) (memo : S → List ℕ) where
   abbrev PartsOf : Shape → Words → (ℕ → Option (Option (std.Option S))) → List View → Type 0
   PartsOf = Parts board free_slots memo
 
@@ -121,7 +122,7 @@ module _ {S : Type 0} (board : S → List (std.Option Held)) (free_slots : S →
               (λ i u apart there. r.ordered.held i u there) (r.ordered.held id v at);
         })
         (by_full (r.half ≡ None) vs id v w at refl r.half_by) (by_pending r.pending vs id v w at refl refl r.pending_by)
-        (record { words = λ has. stand has; held = λ has. is_held has })
+        (record { words = λ has. stand has; held = λ has. is_held has }) (r.holders id v at) (λ i y apart there. r.holders i y there)
 
     pub noting_function : (words : List SeenWord) (seen : List Held) (stand : HasShare v → Each (StandsSo ws.node v) words) (is_held : KeepsSlots v → Each (IsHeldBy z r.function) seen) → (parts_noting words seen stand is_held).function ≡ r.function
     unfolding parts_noting parts_known

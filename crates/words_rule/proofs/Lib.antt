@@ -47,6 +47,7 @@ pub mod Opened
 pub mod Decoding
 pub mod Narrowing
 pub mod Meeting
+pub mod HolderKnows
 pub mod Noticing
 pub mod Standing
 pub mod NodeLoads
@@ -68,5 +69,16 @@ pub mod Aparts
 pub mod FullSteps
 pub mod CountSteps
 pub mod CountLoads
+pub mod LearnsAll
+pub mod HolderLoads
+pub mod Unlinks
+pub mod HolderHands
+pub mod HeldNotes
+pub mod HolderCounts
+pub mod RewritesNode
+pub mod FreesNode
+pub mod AddsNode
+pub mod OrderWords
+pub mod OrderStores
 pub mod Waits
 pub mod Steppers

@@ -35,6 +35,7 @@ use Rattle.words_rule.proofs.Handed.{parts_no_node}
 use Rattle.words_rule.proofs.Rewrites.{parts_known}
 use Rattle.words_rule.proofs.Stepping.{shape_is}
 use Rattle.words_rule.proofs.Tabling.{stays}
+use Rattle.words_rule.specs.FreeSlots.{FreeSlots}
 
 abbrev pub noting_word : View → SeenWord → View
 noting_word v note = record v { known = record v.known { words = note ∷ v.known.words } }
@@ -43,7 +44,7 @@ noting_word v note = record v { known = record v.known { words = note ∷ v.know
 abbrev pub AllElse : View → List ℕ → ℕ → Type 0
 AllElse v rest bits = (s : ℕ) → Lists rest s → (k b : ℕ) × (get_elem? v.known.words k ≡ some (record { slot = s; bits = b })) × (b ≢ bits)
 
-module _ {S : Type 0} (board : S → List (std.Option Held)) (free_slots : S → List ℕ) (memo : S → List ℕ) where
+module _ {S : Type 0} (board : S → List (std.Option Held)) (free_slots : S → FreeSlots) (memo : S → List ℕ) where
   abbrev PartsOf : Shape → Words → (ℕ → Option (Option (std.Option S))) → List View → Type 0
   PartsOf = Parts board free_slots memo
 
@@ -68,7 +69,7 @@ module _ {S : Type 0} (board : S → List (std.Option Held)) (free_slots : S →
               (λ i u apart there. r.ordered.held i u there) (r.ordered.held id v at);
         })
         (by_full (r.half ≡ None) vs id v w at refl r.half_by) (by_pending r.pending vs id v w at refl refl r.pending_by)
-        (record { words = λ has. (stands, (r.seen id v at).words has); held = λ has. (r.seen id v at).held has })
+        (record { words = λ has. (stands, (r.seen id v at).words has); held = λ has. (r.seen id v at).held has }) (r.holders id v at) (λ i y apart there. r.holders i y there)
 
     -- a walk whose slots were all loaded and have other words: the node is absent, as IsDue asks
     pub parts_absent_noted : (n : Walk) (bits : ℕ) (node : Node) → HasShare v → v.hand.walk ≡ Some n → v.hand.loose ≡ None → bits < 18446744073709551616 → unpack_of bits ≡ std.Some (Inner node) → head_of z bits ≡ n.head → place_of z node.var ≡ n.level → AllElse v n.rest bits

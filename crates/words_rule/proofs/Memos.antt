@@ -31,7 +31,6 @@ use Rattle.words_rule.specs.Seen.{StandsSo}
 use Rattle.words_rule.specs.Known.{Own, known_of, noted_content, word_in}
 use Rattle.words_rule.specs.Plays.{memo_taken, memo_given}
 use Rattle.words_rule.proofs.Boards.{tables_home}
-use Rattle.words_rule.proofs.Draws.{by_full}
 use Rattle.words_rule.proofs.Handed.{handed, parts_hand, seen_here, hand_at}
 use Rattle.words_rule.proofs.Handling.{hands_it}
 use Rattle.words_rule.proofs.Layouts.{set_memo_turn}
@@ -42,6 +41,7 @@ use Rattle.words_rule.proofs.Meeting.{content_true, narrow, word_stands}
 use Rattle.words_rule.proofs.Remembering.{entries_carried, remembered_taken, remembered_given}
 use Rattle.words_rule.proofs.Standing.{stands_more}
 use Rattle.words_rule.proofs.Tabling.{after_word, set_set, stays}
+use Rattle.words_rule.specs.FreeSlots.{FreeSlots}
 
 never : (word : Word) → ◌≡◌ {A = std.Option Word} None (Some word) → ⊥
 never word e = cc
@@ -90,7 +90,7 @@ stands_handed k h s = record {
   never_wants = s.never_wants;
 }
 
-module _ {S : Type 0} (board : S → List (std.Option Held)) (free_slots : S → List ℕ) (memo : S → List ℕ) where
+module _ {S : Type 0} (board : S → List (std.Option Held)) (free_slots : S → FreeSlots) (memo : S → List ℕ) where
   abbrev PartsOf : Shape → Words → (ℕ → Option (Option (std.Option S))) → List View → Type 0
   PartsOf = Parts board free_slots memo
 
@@ -212,12 +212,12 @@ module _ {S : Type 0} (board : S → List (std.Option Held)) (free_slots : S →
         let t = r.tied id v at in
         let here = hand_at board free_slots memo z ws home vs r id v at in
         let w = content_of z ws.node r.orders r.function r.half in
-        parts_hand board free_slots memo z ws home vs r id v at h ws.free_turn turn ws.turn ws.node ws.next ws.head home' r.function r.half r.on r.chain same_board r.kept r.sound remembered
+        parts_hand board free_slots memo z ws home vs r id v at h ws.free_turn turn ws.turn ws.node ws.next ws.head home' r.function r.on r.chain same_board r.kept r.sound remembered
         (tables_home free_slots z w r.on ws.free_turn ws.turn home home' (set (hands_in vs) id h) same_free
         (hands_it free_slots z w r.on ws.free_turn ws.turn home (hands_in vs) r.tables id v.hand here h refl refl refl refl (r.tables.walking id v.hand here)))
         (hand_links z ws.node ws.next ws.head r.on r.chain (hands_in vs) r.linked id h (r.linked.links id v.hand here) (r.linked.walks id v.hand here) (r.linked.wholes id v.hand here))
         (record { zeros = t.zeros; pins = t.pins; taken = t.taken; alone = t.alone; dead = λ gone. absurd (true≢false (sym live ∙ gone)) })
-        (by_full (r.half ≡ None) vs id v (handed v h) at refl r.half_by) (seen_here board free_slots memo z ws home vs r id v at h)
+        (seen_here board free_slots memo z ws home vs r id v at h)
 
   pub takes_memo : (slots id : ℕ) (me : Sat) (o : Own) (new : ℕ) → me.0.draws.live ≡ true → me.0.shares.op ≡ shares.Held → o.fulls < 18446744073709551616 → new ≢ 0
       → Allows TheRule slots id me 5 (λ n. either (n == 0) new n) (memo_taken memo o (step slots 5 0 new none) me)

@@ -26,6 +26,7 @@ use Rattle.words_rule.proofs.FirstChains.{all_on, first_chains, next_chains, on_
 use Rattle.words_rule.proofs.Layouts.{here_order, set_head, set_next, set_node}
 use Rattle.words_rule.proofs.Opening.{place_of-range, slice-range}
 use Rattle.words_rule.proofs.Opens.{starts, word_behind}
+use Rattle.words_rule.specs.FreeSlots.{FreeSlots}
 
 -- words of an area that are all 0
 pub area_zero : (at : ℕ → ℕ) (len : ℕ) (ws : List ℕ) → ((k : ℕ) → k < len → slice_index ws (at k) ≡ 0) → (k : ℕ) → area at len ws k ≡ 0
@@ -219,12 +220,12 @@ module _ (z : Shape) where
   pub heads_empty : (ws nodes : List ℕ) → IsEmpty z ws → HasNodes z ws nodes → (h : ℕ) → (words_of z nodes).head h ≡ 0
   heads_empty ws nodes empty written h = ap (λ (x : Words). x.head h) written.rest ∙ area_zero (head_at z) (heads z) ws (λ k lt. empty (head_at z k) (inr (omega arith))) h
 
-module _ {S : Type 0} (board : S → List (std.Option Held)) (free_slots : S → List ℕ) (memo : S → List ℕ) where
+module _ {S : Type 0} (board : S → List (std.Option Held)) (free_slots : S → FreeSlots) (memo : S → List ℕ) where
   -- with an empty board and a list of the free slots it is a table under the rule
   pub begins : (key : Opening) (ws : List ℕ) (at_board at_free at_memo : S) → key.vars ≤ 16384 → key.elements ≤ 16384 → key.slots ≤ 8388607 → 5 + key.vars ≤ key.slots → length ws ≡ word_count (shape_of key) → AreFirst (shape_of key) (words_of (shape_of key) ws)
-      → length (board at_board) ≡ 256 → cell_in (board at_board) ≡ (λ (i : ℕ). None) → AreFree (shape_of key) (free_slots at_free) → 0 < answer_places (memo at_memo) → ((i : ℕ) → kept_at (memo at_memo) i ≡ None)
+      → length (board at_board) ≡ 256 → cell_in (board at_board) ≡ (λ (i : ℕ). None) → AreFree (shape_of key) (free_slots at_free).slots → (free_slots at_free).room ≡ key.slots → 0 < answer_places (memo at_memo) → ((i : ℕ) → kept_at (memo at_memo) i ≡ None)
       → Rule board free_slots memo (record { words = ws; homes = map some (Some at_board ∷ Some at_free ∷ Some at_memo ∷ []); views = first_view key ∷ [] })
-  begins key ws at_board at_free at_memo vars elements slots room long first cells empty free some_places blank = starts board free_slots memo key ws (map some (Some at_board ∷ Some at_free ∷ Some at_memo ∷ [])) long refl (record {
+  begins key ws at_board at_free at_memo vars elements slots room long first cells empty free roomy some_places blank = starts board free_slots memo key ws (map some (Some at_board ∷ Some at_free ∷ Some at_memo ∷ [])) long refl (record {
     few = vars;
     few_elements = elements;
     room = room;
@@ -242,6 +243,7 @@ module _ {S : Type 0} (board : S → List (std.Option Held)) (free_slots : S →
     at_free = at_free;
     free_home = refl;
     free = free;
+    roomy = roomy;
     at_memo = at_memo;
     memo_home = refl;
     some_places = some_places;

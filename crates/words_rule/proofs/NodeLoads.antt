@@ -33,6 +33,7 @@ use Rattle.words_rule.proofs.Handed.{hand_at}
 use Rattle.words_rule.proofs.Meeting.{content_true, word_stands, meets, AreKnown}
 use Rattle.words_rule.proofs.Noticing.{learns_trans, noticing, noticed_parts, noticed_orders, noticed_here, noticed_has, noticed_learns}
 use Rattle.words_rule.proofs.Standing.{stands_more}
+use Rattle.words_rule.specs.FreeSlots.{FreeSlots}
 
 never : (word : Word) → ◌≡◌ {A = std.Option Word} None (Some word) → ⊥
 never word e = cc
@@ -55,7 +56,7 @@ walk_in None n e = cc
 pub learns_refl : (k : Knowledge) → Learns k k
 learns_refl k = record { kept = Kept-refl k.view; room = refl; words = λ s b is. is; heads = refl }
 
-module _ {S : Type 0} (board : S → List (std.Option Held)) (free_slots : S → List ℕ) (memo : S → List ℕ) where
+module _ {S : Type 0} (board : S → List (std.Option Held)) (free_slots : S → FreeSlots) (memo : S → List ℕ) where
   abbrev PartsOf : Shape → Words → (ℕ → Option (Option (std.Option S))) → List View → Type 0
   PartsOf = Parts board free_slots memo
 

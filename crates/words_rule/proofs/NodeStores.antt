@@ -49,6 +49,7 @@ use Rattle.words_rule.proofs.Meeting.{no_hold, word_stands, content_true, narrow
 use Rattle.words_rule.proofs.Working.{parts_work}
 use Rattle.words_rule.proofs.Standing.{stands_more}
 use Rattle.words_rule.proofs.HandClauses.{some_back}
+use Rattle.words_rule.specs.FreeSlots.{FreeSlots}
 
 never : (word : Word) → ◌≡◌ {A = std.Option Word} None (Some word) → ⊥
 never word e = cc
@@ -59,7 +60,7 @@ some_word a b e = cc
 some_denoted : (a b : Denoted) → Some a ≡ Some b → a ≡ b
 some_denoted a b e = cc
 
-module _ {S : Type 0} (board : S → List (std.Option Held)) (free_slots : S → List ℕ) (memo : S → List ℕ) where
+module _ {S : Type 0} (board : S → List (std.Option Held)) (free_slots : S → FreeSlots) (memo : S → List ℕ) where
   abbrev PartsOf : Shape → Words → (ℕ → Option (Option (std.Option S))) → List View → Type 0
   PartsOf = Parts board free_slots memo
 

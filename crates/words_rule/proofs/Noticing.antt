@@ -22,6 +22,7 @@ use Rattle.words_rule.proofs.Stepping.{shape_is}
 use Rattle.words_rule.proofs.Storing.{noting_slot, edge_at, parts_notes}
 use Rattle.words_rule.proofs.Narrowing.{Has}
 use Rattle.words_rule.proofs.Meeting.{word_stands, content_true, decoded, some_denoted}
+use Rattle.words_rule.specs.FreeSlots.{FreeSlots}
 
 never : (word : Word) → ◌≡◌ {A = std.Option Word} None (Some word) → ⊥
 never word e = cc
@@ -34,7 +35,7 @@ learns_trans x y = record {
   heads = y.heads ∙ x.heads;
 }
 
-module _ {S : Type 0} (board : S → List (std.Option Held)) (free_slots : S → List ℕ) (memo : S → List ℕ) where
+module _ {S : Type 0} (board : S → List (std.Option Held)) (free_slots : S → FreeSlots) (memo : S → List ℕ) where
   abbrev PartsOf : Shape → Words → (ℕ → Option (Option (std.Option S))) → List View → Type 0
   PartsOf = Parts board free_slots memo
 

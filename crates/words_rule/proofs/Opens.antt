@@ -17,6 +17,7 @@ use Rattle.function_laws.specs.EntryOrders.{opening_orders}
 use Rattle.node_store.specs.Contents.{Content, IsSound, projection_node}
 use Rattle.words_rule.specs.Ordered.{KnowsOrders}
 use Rattle.words_rule.specs.Generations.{IsOfSlot}
+use Rattle.words_rule.specs.Holders.{IsHolder}
 use Rattle.words_rule.specs.declared.view.Held.{Held}
 use Rattle.words_rule.specs.declared.view.Link.{Link}
 use Rattle.words_rule.specs.declared.view.Walk.{Walk}
@@ -43,6 +44,7 @@ use Rattle.words_rule.proofs.Phases.{phase_starts}
 use Rattle.words_rule.proofs.Opening.{at_high, opening_sound, word_high}
 use Rattle.function_laws.specs.Kinds.{BddFunction}
 use Rattle.function_laws.specs.Values.{projection}
+use Rattle.words_rule.specs.FreeSlots.{FreeSlots}
 
 -- an empty board names no slot
 none_counted : (k : ℕ) (cells : List (std.Option Held)) → ((i : ℕ) → cell_in cells i ≡ None) → cells_count k cells ≡ 0
@@ -91,7 +93,7 @@ used_opening_on n (suc (suc (suc (suc (suc v))))) word le is = elim (cases_lt v 
   | inr le' ↦ absurd (no_some word (sym (ap (λ b. cond b (Some (Inner (projection_node v))) None) (le-ltb v n le')) ∙ is))
 ]
 
-module _ {S : Type 0} (board : S → List (std.Option Held)) (free_slots : S → List ℕ) (memo : S → List ℕ) where
+module _ {S : Type 0} (board : S → List (std.Option Held)) (free_slots : S → FreeSlots) (memo : S → List ℕ) where
   pub opens : (key : Opening) (ws : Words) (home : ℕ → Option (Option (std.Option S))) → IsNewTable board free_slots memo (shape_of key) ws home → Parts board free_slots memo (shape_of key) ws home (first_view key ∷ [])
   opens key ws home new =
       let z = shape_of key in
@@ -159,7 +161,7 @@ module _ {S : Type 0} (board : S → List (std.Option Held)) (free_slots : S →
           held = λ id h at. only v.hand id h at (λ (i : ℕ) (h : Hand). h.memo ≡ true → (none ≡ some i) × (ws.memo_turn ≢ 0)) (λ has. absurd (true≢false (sym has)));
         };
         tables = subst (λ (c : Content). Tables free_slots z c (opening_on n) ws.free_turn ws.turn home (v.hand ∷ [])) (sym content) (record {
-          free_now = free_slots new.at_free;
+          free_now = (free_slots new.at_free).slots;
           free_holder = none;
           holder = λ _. none;
           taker = λ _. none;
@@ -171,8 +173,8 @@ module _ {S : Type 0} (board : S → List (std.Option Held)) (free_slots : S →
               | inr le ↦ new.free.all s le lt
             ];
           };
-          free_home = λ _. (refl, new.at_free, new.free_home, refl);
-          free_held = λ id h at. only v.hand id h at (λ (i : ℕ) (h : Hand). (list : List ℕ) → h.free ≡ Some list → (none ≡ some i) × (ws.free_turn ≢ 0) × (list ≡ free_slots new.at_free)) (λ list its. absurd (no_list list its));
+          free_home = λ _. (refl, new.at_free, new.free_home, refl, new.roomy);
+          free_held = λ id h at. only v.hand id h at (λ (i : ℕ) (h : Hand). (list : List ℕ) → h.free ≡ Some list → (none ≡ some i) × (ws.free_turn ≢ 0) × (list ≡ (free_slots new.at_free).slots)) (λ list its. absurd (no_list list its));
           loose = λ _. none;
           level_home = λ l lt _. refl;
           level_held = λ id h at. only v.hand id h at (λ (i : ℕ) (h : Hand). (k l : ℕ) → get_elem? h.levels k ≡ some l → (l < levels z) × (none ≡ some i) × (ws.turn l ≢ 0)) (λ k l there. absurd (some-ne-none l (sym there)));
@@ -203,6 +205,7 @@ module _ {S : Type 0} (board : S → List (std.Option Held)) (free_slots : S →
         sized = λ id f at. only v id f at (λ _ (f : View). (f.draws.live ≡ true) ⊎ (f.draws.closing ≡ true) → f.draws.slots ≡ z.slots) (λ _. refl);
         half_by = inl refl;
         pending_by = inl refl;
+        holders = λ id f at. only v id f at (λ _ (f : View). IsHolder ws.count None [] f) ((λ holding. absurd (let e : 0 ≡ 1 = ap hold holding in omega (arith, e))), (λ full. absurd (let e : 0 ≡ 1 = ap hold full in omega (arith, e))));
         generations = λ id f at. only v id f at (λ _ (f : View). Each (IsOfSlot ws.count f) f.counts.generations) tt;
         seen = λ id f at. only v id f at (λ _ (f : View). IsSeen z ws.node (opening_function n) f) (record { words = λ _. tt; held = λ _. tt });
       }

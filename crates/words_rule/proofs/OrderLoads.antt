@@ -29,8 +29,9 @@ use Rattle.words_rule.proofs.Rewrites.{order_by_full}
 use Rattle.words_rule.proofs.Narrowing.{variable_up, level_same}
 use Rattle.words_rule.proofs.Meeting.{narrow}
 use Rattle.words_rule.proofs.Opened.{within_levels}
+use Rattle.words_rule.specs.FreeSlots.{FreeSlots}
 
-module _ {S : Type 0} (board : S → List (std.Option Held)) (free_slots : S → List ℕ) (memo : S → List ℕ) where
+module _ {S : Type 0} (board : S → List (std.Option Held)) (free_slots : S → FreeSlots) (memo : S → List ℕ) where
   module _ (z : Shape) (ws : Words) (home : ℕ → Option (Option (std.Option S))) (vs : List View) (r : Parts board free_slots memo z ws home vs) (id : ℕ) (v : View) (at : get_elem? vs id ≡ some v)
       (live : v.draws.live ≡ std.true) (share : v.shares.op ≡ shares.Held) (o : Own) where
     -- beside an operation share no order word is due

@@ -27,8 +27,9 @@ use Rattle.words_rule.proofs.Stepping.{parts_op_out, parts_op_debt, parts_walk_o
 use Rattle.words_rule.proofs.Holds.{parts_hold, parts_unhold}
 use Rattle.words_rule.proofs.Tabling.{after_word, set_set, stays}
 use Rattle.words_rule.proofs.Learning.{parts_noting}
+use Rattle.words_rule.specs.FreeSlots.{FreeSlots}
 
-module _ {S : Type 0} (board : S → List (std.Option Held)) (free_slots : S → List ℕ) (memo : S → List ℕ) (slots id : ℕ) (me : Me (std.Option S) View) (live : me.0.draws.live ≡ true) where
+module _ {S : Type 0} (board : S → List (std.Option Held)) (free_slots : S → FreeSlots) (memo : S → List ℕ) (slots id : ℕ) (me : Me (std.Option S) View) (live : me.0.draws.live ≡ true) where
   abbrev pub PartsOf : Shape → Words → (ℕ → Option (Option (std.Option S))) → List View → Type 0
   PartsOf = Parts board free_slots memo
 
@@ -104,13 +105,13 @@ module _ {S : Type 0} (board : S → List (std.Option Held)) (free_slots : S →
   order_looks claim s r long at small =
       let k : ℕ = n s r at in
       let os = r.parts.orders in
-      let known : Known = record me.0.known { variable_order = os.variables; element_order = os.elements; told_variables = os.variables; told_elements = os.elements; words = []; seen = [] } in
+      let known : Known = record me.0.known { variable_order = os.variables; element_order = os.elements; told_variables = os.variables; told_elements = os.elements; words = []; seen = []; ages = [] } in
       dite (ℕ_discrete (ops_of k) 0)
       (λ none_seen. let w : View = record me.0 { shares = with_order me.0.shares Holding k; known = known } in (
         w,
         keeps,
         tt,
-        ends s r at k k refl w (parts_hold board free_slots memo r.shape (ws s r at) (home s r at) s.views r.parts id me.0 at known claim none_seen refl refl tt tt),
+        ends s r at k k refl w (parts_hold board free_slots memo r.shape (ws s r at) (home s r at) s.views r.parts id me.0 at known claim none_seen refl refl tt tt tt),
         ((λ _. (os.variables, os.elements, refl)), (λ some_seen. absurd (some_seen none_seen))),
       ))
       (λ some_seen. (me.0, keeps, tt, stays board free_slots memo s 1 id me r at, ((λ none_seen. absurd (some_seen none_seen)), (λ _. refl))))

@@ -30,6 +30,7 @@ use Rattle.words_rule.specs.Tallies.{Counted, Tally, held_count, one_if, parts, 
 use Rattle.words_rule.specs.Kept.{Board, Kept, KeepsTally}
 use Rattle.words_rule.specs.Ordered.{KnowsOrders}
 use Rattle.words_rule.specs.Generations.{IsOfSlot}
+use Rattle.words_rule.specs.Holders.{IsHolder}
 use Rattle.words_rule.specs.Rule.{Parts, Rule, Tied, FullHolder, HalfHolder, bare, draws_in, footings_in, tallies_in, hands_in}
 use Rattle.words_rule.specs.Endings.{IsSettled}
 use Rattle.words_rule.proofs.Lists.{each_set, set_at}
@@ -40,6 +41,7 @@ use Rattle.words_rule.proofs.Sifting.{steps_quiet}
 use Rattle.words_rule.proofs.Seeing.{seen_other}
 use Rattle.words_rule.proofs.Phases.{moves}
 use Rattle.words_rule.proofs.Tallying.{total-set}
+use Rattle.words_rule.specs.FreeSlots.{FreeSlots}
 
 -- the same view, told otherwise
 frame : {A : Type 0} (f : View → A) (vs : List View) (id : ℕ) (v w : View) → get_elem? vs id ≡ some v → f w ≡ f v → map f (set vs id w) ≡ map f vs
@@ -51,7 +53,7 @@ nothing_held e = cc
 free_not : Free ≡ Holding → ⊥
 free_not e = cc
 
-module _ {S : Type 0} (board : S → List (std.Option Held)) (free_slots : S → List ℕ) (memo : S → List ℕ) where
+module _ {S : Type 0} (board : S → List (std.Option Held)) (free_slots : S → FreeSlots) (memo : S → List ℕ) where
   module _ (z : Shape) (ws : Words) (home : ℕ → Option (Option (std.Option S))) (vs : List View) (r : Parts board free_slots memo z ws home vs) (id : ℕ) (v : View) (at : get_elem? vs id ≡ some v) (live : v.draws.live ≡ true) (settled : IsSettled v) where
     abbrev b : View
     b = bare v.draws
@@ -169,6 +171,7 @@ module _ {S : Type 0} (board : S → List (std.Option Held)) (free_slots : S →
           tied = each_set (λ i (f : View). Tied f) vs id w (λ i f apart there. r.tied i f there)
               (record { zeros = λ k zeros. absurd (omega (arith, zeros)); pins = λ k pins. absurd (omega (arith, pins)); taken = λ busy. absurd (busy (refl, refl, refl)); alone = λ n walk whole. absurd (never n walk); dead = λ gone. absurd (true≢false (sym live ∙ gone)) });
           sized = each_set (λ i (f : View). (f.draws.live ≡ true) ⊎ (f.draws.closing ≡ true) → f.draws.slots ≡ z.slots) vs id w (λ i f apart there. r.sized i f there) (r.sized id v at);
+          holders = each_set (λ _ (u : View). IsHolder ws.count r.half r.pending u) vs id w (λ i u apart there. r.holders i u there) ((λ holding. absurd (free_not holding)), (λ full. absurd (free_not full)));
           generations = each_set (λ _ (u : View). Each (IsOfSlot ws.count u) u.counts.generations) vs id w (λ i u apart there. r.generations i u there) tt;
           seen = seen_other z ws.node r.function vs r.seen id w (record { words = λ _. tt; held = λ _. tt });
           half_by = ⊎_elim (λ none_half. inl none_half) (λ y. inr (other_half y)) r.half_by;

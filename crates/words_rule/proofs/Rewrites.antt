@@ -1,7 +1,7 @@
 -- The steps of one swap on words: a node is rewritten in its slot, and the two order words are stored one after the other.
 use Rattle.std.proofs.Common.{◌≡◌, ◌≢◌, ◌⊎◌, ℕ, ◌+◌, ◌-◌, ◌<◌, ◌≤◌, true, false, Bool, cond, eqb-true, ◌==◌, List, [], ◌∷◌, set, length, get_or, refl, ap, sym, subst, ◌∙◌, inl, inr, ⊎_elim, arith, get_or-set_other, get_or-set_same, length-set}
 use Rattle.std.specs.Prelude as std
-use Rattle.std.specs.Prelude.{Some, None, slice_index}
+use Rattle.std.specs.Prelude.{Some, None, option_map, slice_index}
 use Rattle.std.specs.List.{swap}
 use Rattle.std.proofs.lemmas.Bool.{cases_lt, cases_eq, lt-ltb, le-ltb}
 use Rattle.std.proofs.lemmas.List.Edits.{length-swap, swap_is}
@@ -27,7 +27,7 @@ use Rattle.node_store.proofs.Rewriting.{put_at-same, put_at-other, rewritten_sou
 use Rattle.node_store.proofs.ExchangeSound.{exchanged_sound}
 use Rattle.function_laws.specs.SessionEntries.{Each}
 use Rattle.words_rule.specs.Generations.{IsOfSlot}
-use Rattle.words_rule.specs.declared.view.SeenWord.{SeenWord}
+use Rattle.words_rule.specs.Holders.{AreHolders, IsAge, IsHolder}
 use Rattle.words_rule.specs.declared.view.Held.{Held}
 use Rattle.words_rule.specs.declared.view.Hold.{Hold}
 use Rattle.words_rule.specs.declared.view.Hold.TheVariants.{Free, Claimed, Holding}
@@ -38,6 +38,7 @@ use Rattle.words_rule.specs.declared.view.Hand.{Hand}
 use Rattle.words_rule.specs.declared.view.View.{View}
 use Rattle.words_rule.specs.Views.{sizes_for, orders_of, told_orders}
 use Rattle.words_rule.specs.Layout.{Shape, Words, entry_at, item_at, level_entry, places, Positions, content_of}
+use Rattle.words_rule.specs.Exchanges.{dues_of, item, position}
 use Rattle.words_rule.specs.Chains.{Lists}
 use Rattle.words_rule.specs.Journal.{Journal}
 use Rattle.words_rule.specs.Phase.{Phase, footing_of, hold, bit}
@@ -47,19 +48,20 @@ use Rattle.words_rule.specs.Ordered.{KnowsOrders, Ordered}
 use Rattle.words_rule.specs.Hands.{place_of, HasLevel, without_level, Tables, Linked}
 use Rattle.words_rule.specs.Seen.{HasShare, KeepsSlots, StandsSo, IsSeen}
 use Rattle.words_rule.specs.declared.view.Neighbours.{Neighbours}
-use Rattle.words_rule.specs.Halves.{half_in}
+use Rattle.words_rule.specs.Halves.{half_in, pair_of}
 use Rattle.words_rule.specs.Rule.{Parts, Tied, HalfHolder, draws_in, footings_in, tallies_in, hands_in}
 use Rattle.words_rule.proofs.Seeing.{seen_other, seen_alone}
-use Rattle.words_rule.proofs.Lists.{each_set, set_at, map_at, each_both}
+use Rattle.words_rule.proofs.Lists.{each_set, set_at, map_at}
 use Rattle.words_rule.proofs.Phases.{excludes, excludes_full, one_order}
 use Rattle.words_rule.proofs.Sifting.{steps_same}
 use Rattle.words_rule.proofs.Layouts.{content_set}
 use Rattle.words_rule.proofs.Handling.{rewrites_it, hands_it}
 use Rattle.words_rule.proofs.Linking.{words_it, hand_links}
 use Rattle.words_rule.proofs.Draws.{frame, by_full, PendingBy}
-use Rattle.words_rule.proofs.Handed.{handed, parts_hand, remembered_here}
+use Rattle.words_rule.proofs.Handed.{moved, parts_moved, remembered_here}
 use Rattle.words_rule.specs.Remembered.{Remembered}
 use Rattle.words_rule.proofs.Remembering.{remembered_away}
+use Rattle.words_rule.specs.FreeSlots.{FreeSlots}
 
 -- two neighbours exchanged
 swapped_at : (xs : List ℕ) (l : ℕ) → l + 1 < length xs → slice_index (swap xs l (l + 1)) l ≡ slice_index xs (l + 1)
@@ -73,21 +75,6 @@ swapped_next xs l lt = ap (λ (ys : List ℕ). get_or ys (l + 1) 0) (sym (swap_i
 swapped_else : (xs : List ℕ) (l j : ℕ) → l + 1 < length xs → j ≢ l → j ≢ l + 1 → slice_index (swap xs l (l + 1)) j ≡ slice_index xs j
 swapped_else xs l j lt a b = ap (λ (ys : List ℕ). get_or ys j 0) (sym (swap_is xs l (l + 1) 0 (omega (arith, lt)) lt))
     ∙ get_or-set_other (set xs l (get_or xs (l + 1) 0)) (l + 1) j (get_or xs l 0) 0 (λ e. b e) ∙ get_or-set_other xs l j (get_or xs (l + 1) 0) 0 (λ e. a e)
-
--- the position of a level in both orders
-abbrev pub position : Shape → Order → ℕ → ℕ
-position z Variables level = level
-position z Elements level = z.variables + level
-
--- a variable or element among both, the elements behind the variables
-abbrev pub item : Shape → Order → ℕ → ℕ
-item z Variables u = u
-item z Elements u = z.variables + u
-
--- the order words that are due once the first of an exchange is stored
-abbrev pub dues_of : Shape → Orders → Order → ℕ → List ℕ
-dues_of z orders which level =
-    (position z which level + 1) ∷ (places z + item z which (slice_index (in_order orders which) level)) ∷ (places z + item z which (slice_index (in_order orders which) (level + 1))) ∷ []
 
 -- a position and a level, as words
 as_item : (z : Shape) (os : Orders) (p : ℕ) → p < places z → entry_at z os p ≡ item_at z os p
@@ -186,7 +173,7 @@ positions_next z orders due pending order p = record {
   ];
 }
 
-module _ {S : Type 0} (board : S → List (std.Option Held)) (free_slots : S → List ℕ) (memo : S → List ℕ) where
+module _ {S : Type 0} (board : S → List (std.Option Held)) (free_slots : S → FreeSlots) (memo : S → List ℕ) where
   abbrev PartsOf : Shape → Words → (ℕ → Option (Option (std.Option S))) → List View → Type 0
   PartsOf = Parts board free_slots memo
 
@@ -233,12 +220,30 @@ module _ {S : Type 0} (board : S → List (std.Option Held)) (free_slots : S →
     nobody_keeps full j u apart there = ⊎_elim (nobody_shares (order_by_full full) j u apart there)
         (λ walking. excludes_full ws.phase (footings_in vs) r.phase j id (footing_of u) (footing_of v) (at_map footing_of vs j u there) (at_map footing_of vs id v at) walking full)
 
-    -- a node is rewritten in its slot under the full hold, on no chain, the turns of both levels in hand: each slot keeps its function
+    -- nobody else has the full hold
+    not_full : v.shares.full ≡ Holding → (j : ℕ) (u : View) → j ≢ id → get_elem? vs j ≡ some u → u.shares.full ≡ Holding → ⊥
+    not_full full j u apart there other =
+        let w = r.phase.within j (footing_of u) (at_map footing_of vs j u there) in
+        let one : bit u.shares.full ≡ 1 = ap bit other in nobody_shares (order_by_full full) j u apart there (inr (holds u.shares.order (omega (arith, w, one))))
+      where
+        holds : (h : Hold) → 0 < hold h → h ≡ Holding
+        holds Holding lt = refl
+        holds Free lt = absurd (omega (arith, lt))
+        holds Claimed lt = absurd (omega (arith, lt))
+
+    -- what holders know, where the seat with the full hold alone changes the swap that is half made, and what it knows of it
+    pub holders_now : (w : View) (half : std.Option Pair) (pending : List ℕ) → v.shares.full ≡ Holding → w.shares ≡ v.shares → w.known.ages ≡ v.known.ages → half_in w.known ≡ half → w.known.pending ≡ pending → AreHolders ws.count half pending (set vs id w)
+    holders_now w half pending full same ages half_is pending_is = each_set (λ _ (u : View). IsHolder ws.count half pending u) vs id w
+        (λ i u apart there. ((r.holders i u there).0, λ other. absurd (not_full full i u apart there other)))
+        ((λ _. subst (Each (IsAge ws.count)) (sym ages) ((r.holders id v at).0 (order_by_full full))), (λ _. (half_is, pending_is)))
+
+    -- a node is rewritten in its slot under the full hold, on no chain, the turns of both levels in hand: each slot keeps its function. The seat notes the word, and the swap that it makes.
     pub parts_rewrite : (k : Kind) (s x : ℕ) (hi lo : Edge) (can : CanRewrite k (content_of z ws.node r.orders r.function r.half) s x hi lo) (bits : ℕ) → bits < 18446744073709551616
-        → v.shares.full ≡ Holding → v.hand.taken ≡ None → v.hand.loose ≡ Some s → HasLevel v.hand (place_of z x) → Each (λ (note : SeenWord). note.slot ≢ s) v.known.words
-        → unpack_of bits ≡ Some (Inner (record { var = x; hi = hi.index; lo = lo })) → half_in v.known ≡ (rewritten (content_of z ws.node r.orders r.function r.half) s x hi lo).half
-        → PartsOf z (record ws { node = put_at ws.node s bits }) home (set vs id (handed v v.hand))
-    parts_rewrite k s x hi lo can bits small full none_taken loose to unnoted reads noted =
+        → v.shares.full ≡ Holding → v.hand.taken ≡ None → v.hand.loose ≡ Some s → HasLevel v.hand (place_of z x) → (known : Known) → orders_of known ≡ orders_of v.known → told_orders known ≡ told_orders v.known → known.pending ≡ v.known.pending → known.ages ≡ v.known.ages
+        → Each (StandsSo (put_at ws.node s bits) v) known.words → known.seen ≡ v.known.seen
+        → unpack_of bits ≡ Some (Inner (record { var = x; hi = hi.index; lo = lo })) → half_in known ≡ (rewritten (content_of z ws.node r.orders r.function r.half) s x hi lo).half
+        → PartsOf z (record ws { node = put_at ws.node s bits }) home (set vs id (moved v v.hand known))
+    parts_rewrite k s x hi lo can bits small full none_taken loose to known orders told due ages words seen reads noted =
         let w : Content = content_of z ws.node r.orders r.function r.half in
         let h : Hand = v.hand in
         let nd : ℕ → ℕ = put_at ws.node s bits in
@@ -247,29 +252,32 @@ module _ {S : Type 0} (board : S → List (std.Option Held)) (free_slots : S →
         let t = r.tied id v at in
         let hand_at = at_map (λ (u : View). u.hand) vs id v at in
         let off = (r.tables.loosened id h hand_at s loose).1 in
+        let u : View = moved v h known in
         let tables = rewrites_it free_slots z w r.on ws.free_turn ws.turn home (hands_in vs) r.tables id h hand_at s (rewritten w s x hi lo) (Inner (record { var = x; hi = hi.index; lo = lo })) loose
         (put_at-same w.word s (Some (Inner (record { var = x; hi = hi.index; lo = lo })))) (λ q ne. put_at-other w.word s q (Some (Inner (record { var = x; hi = hi.index; lo = lo }))) ne) to (nobody_takes (order_by_full full) none_taken) in
         let linked = words_it z ws.node ws.next ws.head r.on r.chain (hands_in vs) r.linked s bits small off in
-        parts_hand board free_slots memo z ws home vs r id v at h ws.free_turn ws.memo_turn ws.turn nd ws.next ws.head home r.function half r.on r.chain refl r.kept
+        parts_moved board free_slots memo z ws home vs r id v at h known ws.free_turn ws.memo_turn ws.turn nd ws.next ws.head home r.function half r.on r.chain refl orders told due r.kept
         (subst IsSound (sym content) (rewritten_sound w r.sound k s x hi lo can))
         (remembered_here board free_slots memo z ws home vs r id v at h refl home refl nd r.function half (λ q f is. is))
         (subst (λ (c : Content). Tables free_slots z c r.on ws.free_turn ws.turn home (set (hands_in vs) id h)) (sym content)
         (hands_it free_slots z (rewritten w s x hi lo) r.on ws.free_turn ws.turn home (hands_in vs) tables id h hand_at h refl refl refl refl (r.tables.walking id h hand_at)))
         (hand_links z nd ws.next ws.head r.on r.chain (hands_in vs) linked id h (r.linked.links id h hand_at) (linked.walks id h hand_at) (r.linked.wholes id h hand_at))
         (record { zeros = t.zeros; pins = t.pins; taken = t.taken; alone = t.alone; dead = t.dead })
-        (inr ((id, handed v h, set_at vs id v (handed v h) at, full), noted))
-        (seen_alone z ws.node r.function vs r.seen id (handed v h) nd r.function (nobody_keeps full) (record {
-          words = λ has. each_both (λ (note : SeenWord). note.slot ≢ s) (StandsSo ws.node v) (StandsSo nd (handed v h)) (λ note off st. (put_at-other ws.node s note.slot bits off ∙ st.0, st.1)) v.known.words unnoted ((r.seen id v at).words has);
-          held = (r.seen id v at).held;
+        (inr ((id, u, set_at vs id v u at, full), noted))
+        (seen_alone z ws.node r.function vs r.seen id u nd r.function (nobody_keeps full) (record {
+          words = λ has. words;
+          held = λ has. subst (Each (IsHeldBy z r.function)) (sym seen) ((r.seen id v at).held has);
         }))
+        (holders_now u half r.pending full refl ages noted (due ∙ ((r.holders id v at).1 full).1))
 
     -- a step that changes what a seat knows of the orders, and an order word
     unfoldable pub parts_known : (k : Known) (order : ℕ → ℕ) (orders : Orders) (pending : List ℕ) (half : std.Option Pair)
         → IsSound (content_of z ws.node orders r.function half) → Remembered memo (view_of (content_of z ws.node orders r.function half)) ws.memo_turn (home 2) (hands_in vs) → Tables free_slots z (content_of z ws.node orders r.function half) r.on ws.free_turn ws.turn home (hands_in vs)
         → Positions z order orders pending → Ordered orders (orders_from (opening_orders (sizes_for z.variables z.elements)) r.log) (set vs id (record v { known = k }))
         → (half ≡ None) ⊎ HalfHolder half (set vs id (record v { known = k })) → PendingBy pending (set vs id (record v { known = k })) → IsSeen z ws.node r.function (record v { known = k })
+        → IsHolder ws.count half pending (record v { known = k }) → ((i : ℕ) (u : View) → i ≢ id → get_elem? vs i ≡ some u → IsHolder ws.count half pending u)
         → PartsOf z (record ws { order = order }) home (set vs id (record v { known = k }))
-    parts_known k order orders pending half sound remembered tables positions ordered half_by pending_by is_seen =
+    parts_known k order orders pending half sound remembered tables positions ordered half_by pending_by is_seen holder others =
         let w : View = record v { known = k } in
         let start : Sizes = sizes_for z.variables z.elements in
         let drawn : draws_in (set vs id w) ≡ draws_in vs = frame (λ (v : View). v.draws) vs id v w at refl in
@@ -300,6 +308,7 @@ module _ {S : Type 0} (board : S → List (std.Option Held)) (free_slots : S →
           sized = each_set (λ i (f : View). (f.draws.live ≡ true) ⊎ (f.draws.closing ≡ true) → f.draws.slots ≡ z.slots) vs id w (λ i f apart there. r.sized i f there) (r.sized id v at);
           half_by = half_by;
           pending_by = pending_by;
+          holders = each_set (λ _ (u : View). IsHolder ws.count half pending u) vs id w others holder;
           generations = each_set (λ _ (u : View). Each (IsOfSlot ws.count u) u.counts.generations) vs id w (λ i u apart there. r.generations i u there) (r.generations id v at);
           seen = seen_other z ws.node r.function vs r.seen id w is_seen;
         }
@@ -348,9 +357,9 @@ module _ {S : Type 0} (board : S → List (std.Option Held)) (free_slots : S →
     -- the first order word of an exchange is stored, with the computed table in hand, and the orders are exchanged with it
     pub parts_exchange : (which : Order) (level : ℕ) (can : CanExchange (content_of z ws.node r.orders r.function r.half) which level) (k : Known)
         → v.shares.full ≡ Holding → v.hand.memo ≡ true → v.hand.taken ≡ None → r.pending ≡ []
-        → orders_of k ≡ exchanged r.orders which level → told_orders k ≡ told_orders v.known → k.words ≡ v.known.words → k.seen ≡ v.known.seen → k.pending ≡ dues_of z r.orders which level
+        → orders_of k ≡ exchanged r.orders which level → told_orders k ≡ told_orders v.known → k.words ≡ v.known.words → k.seen ≡ v.known.seen → k.ages ≡ v.known.ages → k.pending ≡ dues_of z r.orders which level → k.half ≡ None
         → PartsOf z (record ws { order = put_at ws.order (position z which level) (entry_at z r.orders (position z which level + 1)) }) home (set vs id (record v { known = k }))
-    parts_exchange which level can k full has_memo none_taken settled knows told words seen due =
+    parts_exchange which level can k full has_memo none_taken settled knows told words seen ages due no_half =
         let holding = order_by_full full in
         let w : View = record v { known = k } in
         parts_known k (put_at ws.order (position z which level) (entry_at z r.orders (position z which level + 1))) (exchanged r.orders which level) (dues_of z r.orders which level) None
@@ -360,13 +369,17 @@ module _ {S : Type 0} (board : S → List (std.Option Held)) (free_slots : S →
         (positions_first z r.orders r.positions.variables_long r.positions.elements_long level which (order_is which) can.within ws.order (subst (Positions z ws.order r.orders) settled r.positions))
         (ordered_now k (exchanged r.orders which level) holding knows told)
         (inl refl) (inr ((id, w, set_at vs id v w at, full), due)) (seen_with k words seen)
+        ((λ _. subst (Each (IsAge ws.count)) (sym ages) ((r.holders id v at).0 holding)), (λ _. (ap (option_map pair_of) no_half, due)))
+        (λ i u apart there. ((r.holders i u there).0, λ other. absurd (not_full full i u apart there other)))
 
     -- and each of the others
-    pub parts_exchanged : (due : ℕ) (k : Known) → v.shares.full ≡ Holding → v.hand.taken ≡ None → orders_of k ≡ r.orders → told_orders k ≡ told_orders v.known → k.words ≡ v.known.words → k.seen ≡ v.known.seen → k.half ≡ v.known.half → k.pending ≡ without_level due r.pending
+    pub parts_exchanged : (due : ℕ) (k : Known) → v.shares.full ≡ Holding → v.hand.taken ≡ None → orders_of k ≡ r.orders → told_orders k ≡ told_orders v.known → k.words ≡ v.known.words → k.seen ≡ v.known.seen → k.ages ≡ v.known.ages → k.half ≡ v.known.half → k.pending ≡ without_level due r.pending
         → PartsOf z (record ws { order = put_at ws.order due (entry_at z r.orders due) }) home (set vs id (record v { known = k }))
-    parts_exchanged due k full none_taken knows told words seen same_half left =
+    parts_exchanged due k full none_taken knows told words seen ages same_half left =
         let holding = order_by_full full in
         let w : View = record v { known = k } in
         parts_known k (put_at ws.order due (entry_at z r.orders due)) r.orders (without_level due r.pending) r.half r.sound r.remembered r.tables
         (positions_next z r.orders due r.pending ws.order r.positions)
         (ordered_now k r.orders holding knows told) (by_full (r.half ≡ None) vs id v w at (ap (λ (n : std.Option Neighbours). (v.shares, n)) same_half) r.half_by) (inr ((id, w, set_at vs id v w at, full), left)) (seen_with k words seen)
+        ((λ _. subst (Each (IsAge ws.count)) (sym ages) ((r.holders id v at).0 holding)), (λ _. (ap (option_map pair_of) same_half ∙ ((r.holders id v at).1 full).0, left)))
+        (λ i u apart there. ((r.holders i u there).0, λ other. absurd (not_full full i u apart there other)))

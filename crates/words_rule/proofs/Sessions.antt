@@ -19,6 +19,7 @@ use Rattle.function_laws.specs.SessionEntries.{Each, entries_of}
 use Rattle.words_rule.specs.declared.view.Share.TheVariants as operation
 use Rattle.words_rule.specs.Ordered.{KnowsOrders}
 use Rattle.words_rule.specs.Generations.{IsOfSlot}
+use Rattle.words_rule.specs.Holders.{IsHolder}
 use Rattle.words_rule.specs.declared.view.Held.{Held}
 use Rattle.words_rule.specs.declared.view.Row.{Row}
 use Rattle.words_rule.specs.declared.view.Link.{Link}
@@ -46,8 +47,9 @@ use Rattle.words_rule.proofs.Lists.{at_end, each_set, each_map, each_append}
 use Rattle.words_rule.proofs.Journals.{splits_it, joins_it}
 use Rattle.words_rule.proofs.Tallying.{total-set}
 use Rattle.words_rule.proofs.Sifting.{quiet}
-use Rattle.node_store.specs.Contents.{view_of}
+use Rattle.node_store.specs.Contents.{Pair, view_of}
 use Rattle.words_rule.specs.Remembered.{Remembered}
+use Rattle.words_rule.specs.FreeSlots.{FreeSlots}
 
 total-append : {A : Type 0} (f : A → ℕ) (xs : List A) (b : A) → total f (xs ++ b ∷ []) ≡ total f xs + f b
 total-append f [] b = omega arith
@@ -107,7 +109,14 @@ counted_more count cells ts r id t a b at same less sessions pins zeros none_b s
 nothing_held : operation.Nothing ≡ operation.Held → ⊥
 nothing_held e = cc
 
-module _ {S : Type 0} (board : S → List (std.Option Held)) (free_slots : S → List ℕ) (memo : S → List ℕ) where
+-- who has the journal alone is no holder
+bare_holder : (count : ℕ → ℕ) (half : std.Option Pair) (pending : List ℕ) (e : Draws) → IsHolder count half pending (bare e)
+bare_holder count half pending e = ((λ holding. absurd (never_holds holding)), (λ full. absurd (never_holds full)))
+  where
+    never_holds : Free ≡ Holding → ⊥
+    never_holds h = cc
+
+module _ {S : Type 0} (board : S → List (std.Option Held)) (free_slots : S → FreeSlots) (memo : S → List ℕ) where
   abbrev PartsOf : Shape → Words → (ℕ → Option (Option (std.Option S))) → List View → Type 0
   PartsOf = Parts board free_slots memo
 
@@ -211,6 +220,7 @@ module _ {S : Type 0} (board : S → List (std.Option Held)) (free_slots : S →
         sized = each_more (λ i (u : View). (u.draws.live ≡ true) ⊎ (u.draws.closing ≡ true) → u.draws.slots ≡ z.slots) (set vs id a) b
             (each_set (λ i (u : View). (u.draws.live ≡ true) ⊎ (u.draws.closing ≡ true) → u.draws.slots ≡ z.slots) vs id a (λ i u _ there. r.sized i u there) (λ _. r.sized id (bare d) at (inr closing)))
             (λ _. r.sized id (bare d) at (inr closing));
+        holders = each_more (λ _ (u : View). IsHolder ws.count r.half r.pending u) (set vs id a) b (each_set (λ _ (u : View). IsHolder ws.count r.half r.pending u) vs id a (λ i u _ there. r.holders i u there) (bare_holder ws.count r.half r.pending (one_more d))) (bare_holder ws.count r.half r.pending (session_of d));
         generations = each_more (λ _ (u : View). Each (IsOfSlot ws.count u) u.counts.generations) (set vs id a) b (each_set (λ _ (u : View). Each (IsOfSlot ws.count u) u.counts.generations) vs id a (λ i u _ there. r.generations i u there) tt) tt;
         seen = each_more (λ _ (u : View). IsSeen z ws.node r.function u) (set vs id a) b (each_set (λ _ (u : View). IsSeen z ws.node r.function u) vs id a (λ i u _ there. r.seen i u there) (record { words = λ _. tt; held = λ _. tt })) (record { words = λ _. tt; held = λ _. tt });
         half_by = ⊎_elim (λ none_half. inl none_half) (λ (y : HalfHolder r.half vs). inr (longer_half y)) r.half_by;
@@ -313,7 +323,7 @@ rows-append : (k : ℕ) (xs ys : List Row) → row_count k (xs ++ ys) ≡ row_co
 rows-append k [] ys = omega arith
 rows-append k (x ∷ xs) ys = let r = rows-append k xs ys in omega (arith, r)
 
-module _ {S : Type 0} (board : S → List (std.Option Held)) (free_slots : S → List ℕ) (memo : S → List ℕ) where
+module _ {S : Type 0} (board : S → List (std.Option Held)) (free_slots : S → FreeSlots) (memo : S → List ℕ) where
   -- a session's seat is taken in
   pub parts_join : (z : Shape) (ws : Words) (home : ℕ → Option (Option (std.Option S))) (vs : List View) (r : Parts board free_slots memo z ws home vs) (id other : ℕ) (d e : Draws) → get_elem? vs id ≡ some (bare d) → ¬ (other ≡ id)
       → get_elem? (set vs id (bare (with_gone d e))) other ≡ some (bare e) → d.closing ≡ true → e.live ≡ true → e.holds ≡ false
@@ -394,6 +404,7 @@ module _ {S : Type 0} (board : S → List (std.Option Held)) (free_slots : S →
         sized = each_set (λ i (u : View). (u.draws.live ≡ true) ⊎ (u.draws.closing ≡ true) → u.draws.slots ≡ z.slots) (set vs id a) other b
             (λ i u _ lies. each_set (λ i (u : View). (u.draws.live ≡ true) ⊎ (u.draws.closing ≡ true) → u.draws.slots ≡ z.slots) vs id a (λ i u _ there. r.sized i u there) (r.sized id (bare d) at) i u lies)
             (⊎_elim (λ l. absurd (true≢false (sym l))) (λ c. absurd (true≢false (sym c))));
+        holders = each_set (λ _ (u : View). IsHolder ws.count r.half r.pending u) (set vs id a) other b (λ i u _ lies. each_set (λ _ (u : View). IsHolder ws.count r.half r.pending u) vs id a (λ i u _ there. r.holders i u there) (bare_holder ws.count r.half r.pending (with_gone d e)) i u lies) (bare_holder ws.count r.half r.pending blank);
         generations = each_set (λ _ (u : View). Each (IsOfSlot ws.count u) u.counts.generations) (set vs id a) other b (λ i u _ lies. each_set (λ _ (u : View). Each (IsOfSlot ws.count u) u.counts.generations) vs id a (λ i u _ there. r.generations i u there) tt i u lies) tt;
         seen = each_set (λ _ (u : View). IsSeen z ws.node r.function u) (set vs id a) other b (λ i u _ lies. each_set (λ _ (u : View). IsSeen z ws.node r.function u) vs id a (λ i u _ there. r.seen i u there) (record { words = λ _. tt; held = λ _. tt }) i u lies) (record { words = λ _. tt; held = λ _. tt });
         half_by = ⊎_elim (λ none_half. inl none_half) (λ (y : HalfHolder r.half vs). let h = y.0 in

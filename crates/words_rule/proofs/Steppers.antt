@@ -1,10 +1,9 @@
 -- What each step leaves of a seat with an operation share.
-use Rattle.std.proofs.Common.{◌≡◌, ◌⊎◌, ◌++◌, ⊎_elim, inl, inr, ℕ, suc, ◌+◌, ◌<◌, ◌≤◌, ◌==◌, cond, Bool, true, false, true≢false, List, [], ◌∷◌, length, Some, None, option_map, refl, ap, sym, ◌∙◌, subst, arith, eqb-true, ◌^◌}
+use Rattle.std.proofs.Common.{◌≡◌, ◌++◌, ⊎_elim, inl, inr, ℕ, suc, ◌+◌, ◌<◌, ◌≤◌, ◌==◌, cond, Bool, true, false, true≢false, List, [], ◌∷◌, Some, None, option_map, refl, ap, sym, ◌∙◌, subst, arith, eqb-true, ◌^◌}
 use Rattle.std.specs.Prelude as std
 use Rattle.atomic_table.specs.Seated.{TableId}
 use Rattle.atomic_table.specs.Table.{rest, turned}
 use Rattle.edge_bits.specs.Words.{unpack_of, pack_of}
-use Rattle.function_laws.specs.declared.history.Function.{Function}
 use Rattle.node_store.specs.Views.{Grown, IsBeyond, IsFunction, IsKey, node_values, values_at}
 use Rattle.node_store.proofs.MemoLaws.{Carries-grown, MemoHolds-edge}
 use Rattle.step_store.specs.declared.hand.Taken.{Taken}
@@ -56,6 +55,7 @@ use Rattle.std.proofs.Math.Nat.{min-le_right}
 use Rattle.std.proofs.lemmas.Bool.{cases_eq}
 use Rattle.words_rule.specs.declared.seat.OpShare.{OpShare}
 use Rattle.words_rule.specs.Tokens.{IsShare}
+use Rattle.words_rule.specs.FreeSlots.{FreeSlots, slots_in}
 
 some_bits : (a b : ℕ) → Some a ≡ Some b → a ≡ b
 some_bits a b e = cc
@@ -139,15 +139,15 @@ within_grown a b grown hand w = record {
   walk = λ n its. subst (λ (x : ℕ). IsChain x n.rest) (sym grown.slots) (w.walk n (ap (λ (h : knowing.Hand). h.walk) (sym hand) ∙ its));
 }
 
-module _ {S : Type 0} (free_slots memo : S → List ℕ) (g : Guard S) (p q : Pass S) (list table : std.Option S) (room : ℕ) (i : IsOperating free_slots memo g p list table room) where
+module _ {S : Type 0} (free_slots : S → FreeSlots) (memo : S → List ℕ) (g : Guard S) (p q : Pass S) (list table : std.Option S) (room : ℕ) (i : IsOperating free_slots memo g p list table room) where
   abbrev K : Knowledge
   K = knows (view p) room
 
   -- what it knows and has in hand changes, and what it stored and was refused, and what is known of that
   pub grown_on : (room' : ℕ) → IsPassOf g q → IsSeatOf (view p) (view q) → (o : Own) → own_of (view q) room' ≡ o → (list' table' : std.Option S) → LiesWithin (known_of (view q) o) → TakenReads (view q)
-      → (view q).hand.free ≡ option_map free_slots list' → (view q).hand.memo ≡ is_there table' → Stands (known_of (view q) o)
+      → (view q).hand.free ≡ option_map (slots_in free_slots) list' → ((x : S) → list' ≡ Some x → (free_slots x).room ≡ (view p).draws.slots) → (view q).hand.memo ≡ is_there table' → Stands (known_of (view q) o)
       → ((x : S) → table' ≡ Some x → AreAnswers (known_of (view q) o).view (memo x)) → in_hand q ≡ out_of 1 list' ++ out_of 2 table' → IsOperating free_slots memo g q list' table' room'
-  grown_on room' at seat o same list' table' within reads list_is table_is stands answers out = record {
+  grown_on room' at seat o same list' table' within reads list_is roomy table_is stands answers out = record {
     own = (at, ap (λ d. d.live) seat.draws ∙ i.own.1);
     share = ap (λ x. x.op) seat.shares ∙ i.share;
     alone = (ap (λ x. x.walk) seat.shares ∙ i.alone.0, ap (λ x. x.order) seat.shares ∙ i.alone.1, ap (λ x. x.full) seat.shares ∙ i.alone.2);
@@ -155,36 +155,37 @@ module _ {S : Type 0} (free_slots memo : S → List ℕ) (g : Guard S) (p q : Pa
     within = subst (λ (x : Own). LiesWithin (known_of (view q) x)) (sym same) within;
     reads = reads;
     list_is = list_is;
+    roomy = λ x there. roomy x there ∙ ap (λ d. d.slots) (sym seat.draws);
     table_is = table_is;
     answers = λ x there. subst (λ (y : Own). AreAnswers (known_of (view q) y).view (memo x)) (sym same) (answers x there);
     out = out;
   }
 
   -- only what it has in hand changes, and to this
-  pub hand_on : IsPassOf g q → (h : Hand) → view q ≡ record (view p) { hand = h } → (list' table' : std.Option S) → LiesWithin (knowing.handed K (hand_of h)) → TakenReads (record (view p) { hand = h }) → h.free ≡ option_map free_slots list' → h.memo ≡ is_there table'
+  pub hand_on : IsPassOf g q → (h : Hand) → view q ≡ record (view p) { hand = h } → (list' table' : std.Option S) → LiesWithin (knowing.handed K (hand_of h)) → TakenReads (record (view p) { hand = h }) → h.free ≡ option_map (slots_in free_slots) list' → ((x : S) → list' ≡ Some x → (free_slots x).room ≡ (view p).draws.slots) → h.memo ≡ is_there table'
       → ((x : S) → table' ≡ Some x → AreAnswers K.view (memo x)) → in_hand q ≡ out_of 1 list' ++ out_of 2 table' → IsOperating free_slots memo g q list' table' room
-  hand_on at h is list' table' within reads list_is table_is answers out =
+  hand_on at h is list' table' within reads list_is roomy table_is answers out =
       grown_on room at
       (record { draws = ap (λ (v : View). v.draws) is; shares = ap (λ (v : View). v.shares) is; counts = ap (λ (v : View). v.counts) is; orders = ap (λ (v : View). record { variables = v.known.variable_order; elements = v.known.element_order }) is })
       (own_of (view q) room) refl list' table'
-      (subst (λ (v : View). LiesWithin (knows v room)) (sym is) within) (subst TakenReads (sym is) reads) (ap (λ (v : View). v.hand.free) is ∙ list_is) (ap (λ (v : View). v.hand.memo) is ∙ table_is)
+      (subst (λ (v : View). LiesWithin (knows v room)) (sym is) within) (subst TakenReads (sym is) reads) (ap (λ (v : View). v.hand.free) is ∙ list_is) roomy (ap (λ (v : View). v.hand.memo) is ∙ table_is)
       (subst (λ (v : View). Stands (knows v room)) (sym is) (stands_handed K (hand_of h) i.stands)) (λ x there. subst (λ (v : View). AreAnswers (knows v room).view (memo x)) (sym is) (answers x there)) out
 
   -- nothing changes
   pub same_on : IsPassOf g q → me q ≡ me p → IsOperating free_slots memo g q list table room
-  same_on at is = hand_on at (view p).hand (ap (λ m. m.0) is) list table i.within i.reads i.list_is i.table_is i.answers (ap (λ m. m.1) is ∙ i.out)
+  same_on at is = hand_on at (view p).hand (ap (λ m. m.0) is) list table i.within i.reads i.list_is i.roomy i.table_is i.answers (ap (λ m. m.1) is ∙ i.out)
 
   pub turn_taken_on : IsPassOf g q → in_hand q ≡ in_hand p → (l : ℕ) → l < knowing.turns K.view → (b : Bool) → (b ≡ true → view q ≡ record (view p) { hand = with_level l (view p).hand }) → (b ≡ false → view q ≡ view p)
       → IsOperating free_slots memo g q list table room
   turn_taken_on at out l lt true taken missed = hand_on at (with_level l (view p).hand) (taken refl) list table
       (record { turn = λ m there. ⊎_elim (λ e. subst (λ (x : ℕ). x < knowing.turns K.view) e lt) (λ later. i.within.turn m later) there; taken = i.within.taken; loose = i.within.loose; walk = i.within.walk })
-      i.reads i.list_is i.table_is i.answers (out ∙ i.out)
-  turn_taken_on at out l lt false taken missed = hand_on at (view p).hand (missed refl) list table i.within i.reads i.list_is i.table_is i.answers (out ∙ i.out)
+      i.reads i.list_is i.roomy i.table_is i.answers (out ∙ i.out)
+  turn_taken_on at out l lt false taken missed = hand_on at (view p).hand (missed refl) list table i.within i.reads i.list_is i.roomy i.table_is i.answers (out ∙ i.out)
 
   pub turn_given_on : IsPassOf g q → in_hand q ≡ in_hand p → (l : ℕ) → view q ≡ record (view p) { hand = record (view p).hand { levels = without_level l (view p).hand.levels; walk = None } } → IsOperating free_slots memo g q list table room
   turn_given_on at out l is = hand_on at (record (view p).hand { levels = without_level l (view p).hand.levels; walk = None }) is list table
       (record { turn = λ m there. i.within.turn m (less_turns l (view p).hand.levels m there); taken = i.within.taken; loose = i.within.loose; walk = λ n its. absurd (no_walk n its) })
-      i.reads i.list_is i.table_is i.answers (out ∙ i.out)
+      i.reads i.list_is i.roomy i.table_is i.answers (out ∙ i.out)
     where
       no_walk : (n : Walk) → None ≡ Some n → ⊥
       no_walk n e = cc
@@ -193,7 +194,7 @@ module _ {S : Type 0} (free_slots memo : S → List ℕ) (g : Guard S) (p q : Pa
   head_loaded_on at head level n loaded =
       hand_on at _ (ap (λ m. m.0) loaded.1) list table
       (record { turn = i.within.turn; taken = i.within.taken; loose = i.within.loose; walk = λ m its. subst (λ (y : List ℕ). IsChain (view p).draws.slots y) (walked m its) loaded.3 })
-      i.reads i.list_is i.table_is i.answers (ap (λ m. m.1) loaded.1 ∙ i.out)
+      i.reads i.list_is i.roomy i.table_is i.answers (ap (λ m. m.1) loaded.1 ∙ i.out)
     where
       walked : (m : Walk) → Some (record { head = head; level = level; rest = loaded.0 }) ≡ Some m → loaded.0 ≡ m.rest
       walked m e = let same : ◌≡◌ {A = Walk} (record { head = head; level = level; rest = loaded.0 }) m = cc in ap (λ (x : Walk). x.rest) same
@@ -204,29 +205,35 @@ module _ {S : Type 0} (free_slots memo : S → List ℕ) (g : Guard S) (p q : Pa
       let o = own_of (view p) room in
       let g = loaded.learns.kept.grown in
       grown_on room at seat o (own_same (view p) (view q) room work seat.draws) list table (within_grown K (known_of (view q) o) g loaded.hand i.within)
-      (λ job its. i.reads job (ap (λ (h : Hand). h.taken) (sym hand) ∙ its)) (ap (λ (h : Hand). h.free) hand ∙ i.list_is) (ap (λ (h : Hand). h.memo) hand ∙ i.table_is) (loaded.stands i.stands)
+      (λ job its. i.reads job (ap (λ (h : Hand). h.taken) (sym hand) ∙ its)) (ap (λ (h : Hand). h.free) hand ∙ i.list_is) i.roomy (ap (λ (h : Hand). h.memo) hand ∙ i.table_is) (loaded.stands i.stands)
       (λ x there. entries_carried K.view (known_of (view q) o).view (memo x) (Carries-grown g) (i.answers x there)) (out ∙ i.out)
 
-  pub list_taken_on : IsPassOf g q → list ≡ None → (x : S) → view q ≡ record (view p) { hand = record (view p).hand { free = Some (free_slots x) } } → in_hand q ≡ (1, None) ∷ in_hand p → IsOperating free_slots memo g q (Some x) table room
-  list_taken_on at none x is out = hand_on at _ is (Some x) table (record { turn = i.within.turn; taken = i.within.taken; loose = i.within.loose; walk = i.within.walk }) i.reads refl i.table_is i.answers
+  pub list_taken_on : IsPassOf g q → list ≡ None → (x : S) → view q ≡ record (view p) { hand = record (view p).hand { free = Some (free_slots x).slots } } → in_hand q ≡ (1, None) ∷ in_hand p → (free_slots x).room ≡ (view p).draws.slots → IsOperating free_slots memo g q (Some x) table room
+  list_taken_on at none x is out roomy = hand_on at _ is (Some x) table (record { turn = i.within.turn; taken = i.within.taken; loose = i.within.loose; walk = i.within.walk }) i.reads refl (λ y its. ap (λ (t : S). (free_slots t).room) (sym (some_list x y its)) ∙ roomy) i.table_is i.answers
       (out ∙ ap (λ (y : List (ℕ × std.Option S)). (1, None) ∷ y) (i.out ∙ ap (λ (y : std.Option S). out_of 1 y ++ out_of 2 table) none))
+    where
+      some_list : (a b : S) → Some a ≡ Some b → a ≡ b
+      some_list a b e = cc
 
   -- the first slot of the list in hand
-  pub slot_told : (x : S) → list ≡ Some x → (slot : ℕ) (left : List ℕ) → free_slots x ≡ slot ∷ left → (view p).hand.free ≡ Some (slot ∷ left)
-  slot_told x there slot left is = i.list_is ∙ ap (option_map free_slots) there ∙ ap Some is
+  pub slot_told : (x : S) → list ≡ Some x → (slot : ℕ) (left : List ℕ) → (free_slots x).slots ≡ slot ∷ left → (view p).hand.free ≡ Some (slot ∷ left)
+  slot_told x there slot left is = i.list_is ∙ ap (option_map (slots_in free_slots)) there ∙ ap Some is
 
   -- the free list goes back without the slot that is taken
   pub slot_taken_on : IsPassOf g q → (x : S) → list ≡ Some x → (bits slot : ℕ) → HasTaken bits slot (me p) (me q) → IsOperating free_slots memo g q None table room
   slot_taken_on at x there bits slot took = hand_on at _ (ap (λ m. m.0) took.is) None table
       (record { turn = i.within.turn; taken = λ t its. subst (λ (y : Taken). y.slot < (view p).draws.slots) (some_taken (taken_of took.job) t its) (subst (λ (y : ℕ). y < (view p).draws.slots) (sym took.slot_is) took.within); loose = i.within.loose; walk = i.within.walk })
       (λ job its. let same = some_job took.job job its in subst (λ (y : Job). unpack_of (pack_of (word_of y)) ≡ Some (word_of y)) same (ap unpack_of took.packs ∙ took.reads))
-      refl i.table_is i.answers (ap (λ m. m.1) took.is ∙ ap rest (i.out ∙ ap (λ (y : std.Option S). out_of 1 y ++ out_of 2 table) there))
+      refl (λ y its. absurd (no_list y its)) i.table_is i.answers (ap (λ m. m.1) took.is ∙ ap rest (i.out ∙ ap (λ (y : std.Option S). out_of 1 y ++ out_of 2 table) there))
     where
       some_taken : (a b : Taken) → Some a ≡ Some b → a ≡ b
       some_taken a b e = cc
 
       some_job : (a b : Job) → Some a ≡ Some b → a ≡ b
       some_job a b e = cc
+
+      no_list : (y : S) → None ≡ Some y → ⊥
+      no_list y e = cc
 
   -- the free list goes back empty, and what was due is noted
   pub empty_given_on : IsPassOf g q → (x : S) → list ≡ Some x → (work : Work) → work.made ≡ (view p).work.made → work.fulls < 18446744073709551616 → view q ≡ record (view p) { hand = record (view p).hand { free = None }; work = work } → in_hand q ≡ rest (in_hand p)
@@ -238,10 +245,13 @@ module _ {S : Type 0} (free_slots memo : S → List ℕ) (g : Guard S) (p q : Pa
       (record { draws = ap (λ (v : View). v.draws) is; shares = ap (λ (v : View). v.shares) is; counts = ap (λ (v : View). v.counts) is; orders = ap (λ (v : View). record { variables = v.known.variable_order; elements = v.known.element_order }) is })
       o (ap (λ (v : View). own_of v room) is) None table
       (subst (λ (v : View). LiesWithin (known_of v o)) (sym is) (record { turn = i.within.turn; taken = i.within.taken; loose = i.within.loose; walk = i.within.walk }))
-      (subst TakenReads (sym is) i.reads) (ap (λ (v : View). v.hand.free) is) (ap (λ (v : View). v.hand.memo) is ∙ i.table_is)
+      (subst TakenReads (sym is) i.reads) (ap (λ (v : View). v.hand.free) is) (λ y its. absurd (no_list y its)) (ap (λ (v : View). v.hand.memo) is ∙ i.table_is)
       (subst (λ (v : View). Stands (known_of v o)) (sym is) (stands_own v (own_of (view p) room) o few (stands_handed K (hand_of v.hand) i.stands)))
       (λ x there. subst (λ (v : View). AreAnswers (known_of v o).view (memo x)) (sym is) (answers_own v (own_of (view p) room) o (memo x) (i.answers x there)))
       (out ∙ ap rest (i.out ∙ ap (λ (y : std.Option S). out_of 1 y ++ out_of 2 table) there))
+    where
+      no_list : (y : S) → None ≡ Some y → ⊥
+      no_list y e = cc
 
   pub node_stored_on : IsPassOf g q → in_hand q ≡ in_hand p → IsSeatOf (view p) (view q) → (slot bits : ℕ) → (view q).work ≡ record (view p).work { made = slot ∷ (view p).work.made } → slot < (view p).draws.slots → StoredNode K (known_of (view q) (with_made (own_of (view p) room) slot)) slot bits
       → IsOperating free_slots memo g q list table room
@@ -252,7 +262,7 @@ module _ {S : Type 0} (free_slots memo : S → List ℕ) (g : Guard S) (p q : Pa
       (within_grown (knowing.handed K (record K.hand { taken = None; loose = Some slot })) (known_of (view q) o) g stored.hand
       (record { turn = i.within.turn; taken = λ t its. absurd (no_taken t its); loose = λ s its. subst (λ (y : ℕ). y < (view p).draws.slots) (some_slot slot s its) inside; walk = i.within.walk }))
       (λ job its. absurd (no_job job (sym (none_back taken_of (view q).hand.taken (ap (λ h. h.taken) stored.hand)) ∙ its)))
-      (ap (λ h. h.free) stored.hand ∙ i.list_is) (ap (λ h. h.memo) stored.hand ∙ i.table_is) (stored.stands i.stands)
+      (ap (λ h. h.free) stored.hand ∙ i.list_is) i.roomy (ap (λ h. h.memo) stored.hand ∙ i.table_is) (stored.stands i.stands)
       (λ x there. entries_carried K.view (known_of (view q) o).view (memo x) (Carries-grown g) (i.answers x there)) (out ∙ i.out)
     where
       no_taken : (t : Taken) → None ≡ Some t → ⊥
@@ -265,10 +275,10 @@ module _ {S : Type 0} (free_slots memo : S → List ℕ) (g : Guard S) (p q : Pa
       some_slot a b e = cc
 
   pub link_stored_on : IsPassOf g q → in_hand q ≡ in_hand p → (slot link : ℕ) → view q ≡ record (view p) { hand = linking slot link (view p).hand } → IsOperating free_slots memo g q list table room
-  link_stored_on at out slot link is = hand_on at _ is list table (record { turn = i.within.turn; taken = i.within.taken; loose = i.within.loose; walk = i.within.walk }) i.reads i.list_is i.table_is i.answers (out ∙ i.out)
+  link_stored_on at out slot link is = hand_on at _ is list table (record { turn = i.within.turn; taken = i.within.taken; loose = i.within.loose; walk = i.within.walk }) i.reads i.list_is i.roomy i.table_is i.answers (out ∙ i.out)
 
   pub head_pushed_on : IsPassOf g q → in_hand q ≡ in_hand p → view q ≡ record (view p) { hand = pushing (view p).hand } → IsOperating free_slots memo g q list table room
-  head_pushed_on at out is = hand_on at _ is list table (record { turn = i.within.turn; taken = i.within.taken; loose = λ s its. absurd (no_slot s its); walk = λ n its. absurd (no_walk n its) }) i.reads i.list_is i.table_is i.answers (out ∙ i.out)
+  head_pushed_on at out is = hand_on at _ is list table (record { turn = i.within.turn; taken = i.within.taken; loose = λ s its. absurd (no_slot s its); walk = λ n its. absurd (no_walk n its) }) i.reads i.list_is i.roomy i.table_is i.answers (out ∙ i.out)
     where
       no_slot : (s : ℕ) → None ≡ Some s → ⊥
       no_slot s e = cc
@@ -283,7 +293,7 @@ module _ {S : Type 0} (free_slots memo : S → List ℕ) (g : Guard S) (p q : Pa
       let g = learnt.learns.kept.grown in
       grown_on room at learnt.seat o (own_same (view p) (view q) room learnt.work learnt.seat.draws) list (Some x)
       (within_grown (knowing.handed K (hand_of (record (view p).hand { memo = true }))) (known_of (view q) o) g (ap hand_of learnt.hand) (record { turn = i.within.turn; taken = i.within.taken; loose = i.within.loose; walk = i.within.walk }))
-      (λ job its. i.reads job (ap (λ (h : Hand). h.taken) (sym learnt.hand) ∙ its)) (ap (λ (h : Hand). h.free) learnt.hand ∙ i.list_is) (ap (λ (h : Hand). h.memo) learnt.hand) (learnt.stands i.stands)
+      (λ job its. i.reads job (ap (λ (h : Hand). h.taken) (sym learnt.hand) ∙ its)) (ap (λ (h : Hand). h.free) learnt.hand ∙ i.list_is) i.roomy (ap (λ (h : Hand). h.memo) learnt.hand) (learnt.stands i.stands)
       (λ y there. subst (λ (z : S). AreAnswers (known_of (view q) o).view (memo z)) (some_same x y there) learnt.holds) (out ∙ ap (λ (y : List (ℕ × std.Option S)). y ++ (2, None) ∷ []) (i.out ∙ ap (λ (y : std.Option S). out_of 1 list ++ out_of 2 y) none ∙ nothing_behind list))
     where
       some_same : (a b : S) → Some a ≡ Some b → a ≡ b
@@ -302,7 +312,7 @@ module _ {S : Type 0} (free_slots memo : S → List ℕ) (g : Guard S) (p q : Pa
       by (Some y) = refl
 
   pub memo_given_on : IsPassOf g q → view q ≡ record (view p) { hand = record (view p).hand { memo = false } } → in_hand q ≡ out_of 1 list → IsOperating free_slots memo g q list None room
-  memo_given_on at is out = hand_on at _ is list None (record { turn = i.within.turn; taken = i.within.taken; loose = i.within.loose; walk = i.within.walk }) i.reads i.list_is refl (λ x there. absurd (no_one x there)) (out ∙ sym (nothing_behind list))
+  memo_given_on at is out = hand_on at _ is list None (record { turn = i.within.turn; taken = i.within.taken; loose = i.within.loose; walk = i.within.walk }) i.reads i.list_is i.roomy refl (λ x there. absurd (no_one x there)) (out ∙ sym (nothing_behind list))
     where
       no_one : (x : S) → None ≡ Some x → ⊥
       no_one x e = cc
@@ -312,9 +322,9 @@ module _ {S : Type 0} (free_slots memo : S → List ℕ) (g : Guard S) (p q : Pa
       nothing_behind (Some y) = refl
 
   -- what lies in hand, or the room beside it, is another
-  pub content_on : (list' table' : std.Option S) (room' : ℕ) → option_map free_slots list' ≡ option_map free_slots list → is_there table' ≡ is_there table → out_of 1 list' ++ out_of 2 table' ≡ out_of 1 list ++ out_of 2 table
+  pub content_on : (list' table' : std.Option S) (room' : ℕ) → option_map (slots_in free_slots) list' ≡ option_map (slots_in free_slots) list → ((x : S) → list' ≡ Some x → (free_slots x).room ≡ (view p).draws.slots) → is_there table' ≡ is_there table → out_of 1 list' ++ out_of 2 table' ≡ out_of 1 list ++ out_of 2 table
       → ((x : S) → table' ≡ Some x → AreAnswers K.view (memo x)) → IsOperating free_slots memo g p list' table' room'
-  content_on list' table' room' lists tables outs answers =
+  content_on list' table' room' lists roomy tables outs answers =
       let o = own_of (view p) room' in record {
         own = i.own;
         share = i.share;
@@ -323,13 +333,14 @@ module _ {S : Type 0} (free_slots memo : S → List ℕ) (g : Guard S) (p q : Pa
         within = record { turn = i.within.turn; taken = i.within.taken; loose = i.within.loose; walk = i.within.walk };
         reads = i.reads;
         list_is = i.list_is ∙ sym lists;
+        roomy = roomy;
         table_is = i.table_is ∙ sym tables;
         answers = λ x there. answers_own (view p) (own_of (view p) room) o (memo x) (answers x there);
         out = i.out ∙ sym outs;
       }
 
   pub same_view_on : IsPassOf g q → in_hand q ≡ in_hand p → view q ≡ view p → IsOperating free_slots memo g q list table room
-  same_view_on at out is = hand_on at (view p).hand is list table i.within i.reads i.list_is i.table_is i.answers (out ∙ i.out)
+  same_view_on at out is = hand_on at (view p).hand is list table i.within i.reads i.list_is i.roomy i.table_is i.answers (out ∙ i.out)
 
   -- the link behind a slot of the chain is 0, or one more than a slot of the table
   pub next_few : (slot n : ℕ) → (k : Walk) × (K.hand.walk ≡ Some k) × Lists k.rest slot → LeadsOn slot (me p) n → n ≤ (view p).draws.slots
@@ -341,7 +352,7 @@ module _ {S : Type 0} (free_slots memo : S → List ℕ) (g : Guard S) (p q : Pa
 
   pub memo_put_on : (x y : S) → table ≡ Some x → AreAnswers K.view (memo y) → IsOperating free_slots memo g p list (Some y) room
   memo_put_on x y there hold =
-      content_on list (Some y) room refl (ap is_there (sym there)) (ap (λ (z : std.Option S). out_of 1 list ++ out_of 2 z) (sym there)) (λ z is. subst (λ (a : S). AreAnswers K.view (memo a)) (some_same y z is) hold)
+      content_on list (Some y) room refl i.roomy (ap is_there (sym there)) (ap (λ (z : std.Option S). out_of 1 list ++ out_of 2 z) (sym there)) (λ z is. subst (λ (a : S). AreAnswers K.view (memo a)) (some_same y z is) hold)
     where
       some_same : (a b : S) → Some a ≡ Some b → a ≡ b
       some_same a b e = cc
@@ -443,7 +454,7 @@ not_some None e = refl
 not_some (Some x) e = absurd (true≢false e)
 
 -- a seat that took an operation share, with nothing in hand
-pub first_stepper : {S : Type 0} (free_slots memo : S → List ℕ) (g : Guard S) (s : OpShare S) (room : ℕ) → IsShare g s → ((o : Own) → o.fulls < 18446744073709551616 → Stands (known_of (view s.pass) o)) → (view s.pass).work.fulls < 18446744073709551616
+pub first_stepper : {S : Type 0} (free_slots : S → FreeSlots) (memo : S → List ℕ) (g : Guard S) (s : OpShare S) (room : ℕ) → IsShare g s → ((o : Own) → o.fulls < 18446744073709551616 → Stands (known_of (view s.pass) o)) → (view s.pass).work.fulls < 18446744073709551616
     → ((view s.pass).hand.levels ≡ []) × ((view s.pass).hand.free ≡ None) × ((view s.pass).hand.link ≡ None) × ((view s.pass).hand.memo ≡ false) → in_hand s.pass ≡ [] → IsOperating free_slots memo g s.pass None None room
 first_stepper free_slots memo g s room is stands few idle empty = record {
   own = is.0;
@@ -458,6 +469,7 @@ first_stepper free_slots memo g s room is stands few idle empty = record {
   };
   reads = λ job its. absurd (nothing (sym is.4.0 ∙ its));
   list_is = idle.1;
+  roomy = λ x there. absurd (nothing there);
   table_is = idle.3;
   answers = λ x there. absurd (nothing there);
   out = empty;

@@ -20,6 +20,7 @@ use Rattle.function_laws.specs.Sizes.{Orders}
 use Rattle.words_rule.proofs.Rewrites.{parts_known}
 use Rattle.words_rule.specs.Ordered.{KnowsOrders}
 use Rattle.words_rule.specs.Generations.{IsOfSlot}
+use Rattle.words_rule.specs.Holders.{IsAge, IsHolder}
 use Rattle.words_rule.specs.declared.view.Held.{Held}
 use Rattle.words_rule.specs.declared.view.Hold.TheVariants.{Free, Claimed, Holding}
 use Rattle.words_rule.specs.declared.view.Share.TheVariants as shares
@@ -50,8 +51,9 @@ use Rattle.words_rule.proofs.Sifting.{steps_same, steps_quiet, stays_placed}
 use Rattle.words_rule.proofs.Layouts.{set_phase, set_count, here_count}
 use Rattle.words_rule.proofs.Draws.{frame, by_full, by_pending}
 use Rattle.words_rule.proofs.Handed.{ordered_same}
-use Rattle.node_store.specs.Contents.{view_of}
+use Rattle.node_store.specs.Contents.{Pair, view_of}
 use Rattle.words_rule.specs.Remembered.{Remembered}
+use Rattle.words_rule.specs.FreeSlots.{FreeSlots}
 
 walk_nothing : shares.Nothing ≡ shares.Held → ⊥
 walk_nothing e = cc
@@ -64,11 +66,22 @@ set_twice [] i a b = refl
 set_twice (x ∷ xs) zero a b = refl
 set_twice (x ∷ xs) (suc i) a b = ap (λ (l : List _). x ∷ l) (set_twice xs i a b)
 
+-- what is never there
+claimed_now : Claimed ≡ Holding → ⊥
+claimed_now e = cc
+
+free_now : Free ≡ Holding → ⊥
+free_now e = cc
+
+-- what a holder knows of generations stays where they do
+holder_recounted : (old new : ℕ → ℕ) (half : std.Option Pair) (pending : List ℕ) (v : View) → ((k : ℕ) → generation_of (new k) ≡ generation_of (old k)) → IsHolder old half pending v → IsHolder new half pending v
+holder_recounted old new half pending v still h = ((λ holding. each_map (IsAge old) (IsAge new) (λ g right. still g.slot ∙ right) v.known.ages (h.0 holding)), h.1)
+
 -- a view that has noted the orders
 abbrev pub with_orders : Orders → View → View
 with_orders orders v = record v { known = record v.known { variable_order = orders.variables; element_order = orders.elements } }
 
-module _ {S : Type 0} (board : S → List (std.Option Held)) (free_slots : S → List ℕ) (memo : S → List ℕ) where
+module _ {S : Type 0} (board : S → List (std.Option Held)) (free_slots : S → FreeSlots) (memo : S → List ℕ) where
   abbrev PartsOf : Shape → Words → (ℕ → Option (Option (std.Option S))) → List View → Type 0
   PartsOf = Parts board free_slots memo
 
@@ -98,7 +111,7 @@ module _ {S : Type 0} (board : S → List (std.Option Held)) (free_slots : S →
               (λ i f apart there. r.ordered.held i f there) (λ holding. (refl, (r.ordered.held id v at holding).1));
         })
         (by_full (r.half ≡ None) vs id v u at refl r.half_by) (by_pending r.pending vs id v u at refl refl r.pending_by)
-        (record { words = (r.seen id v at).words; held = (r.seen id v at).held })
+        (record { words = (r.seen id v at).words; held = (r.seen id v at).held }) (r.holders id v at) (λ i y apart there. r.holders i y there)
 
     pub orders_kept : parts_orders.orders ≡ r.orders
     unfolding parts_orders parts_known
@@ -106,8 +119,9 @@ module _ {S : Type 0} (board : S → List (std.Option Held)) (free_slots : S →
 
     -- a step on the phase word that neither gives up an order hold nor takes one
     pub parts_shares : (x : Shares) (n : ℕ) → Phase n (set (footings_in vs) id (on (footing_of v) x)) → ((x.order ≡ Holding → v.shares.order ≡ Holding) × (v.shares.order ≡ Holding → x.order ≡ Holding)) → (v.shares.full ≡ Holding → (x.full ≡ Holding) ⊎ ((r.half ≡ None) × (r.pending ≡ [])))
-        → ((IsIdle v.hand → ⊥) → (x.op ≡ shares.Held) ⊎ (x.order ≡ Holding)) → (x.op ≡ shares.Held → (v.shares.op ≡ shares.Held) ⊎ ((v.known.words ≡ []) × (v.known.seen ≡ []) × (orders_of v.known ≡ r.orders))) → (x.walk ≡ shares.Held → (v.shares.walk ≡ shares.Held) ⊎ (HasShare v ⊎ (v.known.seen ≡ []))) → PartsOf z (record ws { phase = n }) home (set vs id (record v { shares = x }))
-    parts_shares x n phase order full taken fresh walks =
+        → ((IsIdle v.hand → ⊥) → (x.op ≡ shares.Held) ⊎ (x.order ≡ Holding)) → (x.op ≡ shares.Held → (v.shares.op ≡ shares.Held) ⊎ ((v.known.words ≡ []) × (v.known.seen ≡ []) × (orders_of v.known ≡ r.orders))) → (x.walk ≡ shares.Held → (v.shares.walk ≡ shares.Held) ⊎ (HasShare v ⊎ (v.known.seen ≡ [])))
+        → (x.full ≡ Holding → (v.shares.full ≡ Holding) ⊎ ((half_in v.known ≡ r.half) × (v.known.pending ≡ r.pending))) → PartsOf z (record ws { phase = n }) home (set vs id (record v { shares = x }))
+    parts_shares x n phase order full taken fresh walks fulls =
         let w : View = record v { shares = x } in
         let start : Sizes = sizes_for z.variables z.elements in
         let drawn : draws_in (set vs id w) ≡ draws_in vs = frame (λ (v : View). v.draws) vs id v w at refl in
@@ -145,6 +159,7 @@ module _ {S : Type 0} (board : S → List (std.Option Held)) (free_slots : S →
           tied = each_set (λ i (f : View). Tied f) vs id w (λ i f apart there. r.tied i f there)
               (record { zeros = λ k zeros. order.1 (t.zeros k zeros); pins = λ k pins. order.1 (t.pins k pins); taken = taken; alone = λ n walk whole. order.1 (t.alone n walk whole); dead = t.dead });
           sized = each_set (λ i (f : View). (f.draws.live ≡ true) ⊎ (f.draws.closing ≡ true) → f.draws.slots ≡ z.slots) vs id w (λ i f apart there. r.sized i f there) (r.sized id v at);
+          holders = each_set (λ _ (u : View). IsHolder ws.count r.half r.pending u) vs id w (λ i u apart there. r.holders i u there) ((λ holding. (r.holders id v at).0 (order.0 holding)), (λ f. ⊎_elim (λ was. (r.holders id v at).1 was) (λ now. now) (fulls f)));
           generations = each_set (λ _ (u : View). Each (IsOfSlot ws.count u) u.counts.generations) vs id w (λ i u apart there. r.generations i u there) (r.generations id v at);
           seen = seen_other z ws.node r.function vs r.seen id w (record {
             words = λ has. ⊎_elim
@@ -202,6 +217,7 @@ module _ {S : Type 0} (board : S → List (std.Option Held)) (free_slots : S →
           sized = each_set (λ i (f : View). (f.draws.live ≡ true) ⊎ (f.draws.closing ≡ true) → f.draws.slots ≡ z.slots) vs id w (λ i f apart there. r.sized i f there) (r.sized id v at);
           half_by = by_full (r.half ≡ None) vs id v w at refl r.half_by;
           pending_by = by_pending r.pending vs id v w at refl refl r.pending_by;
+          holders = each_set (λ _ (u : View). IsHolder count r.half r.pending u) vs id w (λ i u apart there. holder_recounted ws.count count r.half r.pending u still (r.holders i u there)) (holder_recounted ws.count count r.half r.pending v still (r.holders id v at));
           generations = each_set (λ _ (u : View). Each (IsOfSlot count u) u.counts.generations) vs id w (λ i u apart there. each_map (IsOfSlot ws.count u) (IsOfSlot count u) (λ g right named_now. still g.slot ∙ right named_now) u.counts.generations (r.generations i u there)) right_now;
           seen = seen_other z ws.node r.function vs r.seen id w (record { words = (r.seen id v at).words; held = (r.seen id v at).held });
         }
@@ -284,7 +300,7 @@ module _ {S : Type 0} (board : S → List (std.Option Held)) (free_slots : S →
     pub parts_op_out : v.shares.op ≡ shares.Held → IsIdle v.hand → PartsOf z (record ws { phase = ws.phase - 1 }) home (set vs id (record v { shares = with_op v.shares shares.Nothing ws.phase }))
     parts_op_out held idle =
         parts_shares (with_op v.shares shares.Nothing ws.phase) (ws.phase - 1) (op_out ws.phase (footings_in vs) r.phase id (footing_of v) (at_map footing_of vs id v at) (ap weight held)).1
-        ((λ h. h), λ h. h) (λ f. inl f) (λ busy. absurd (busy idle)) (λ held_now. absurd (nothing_not held_now)) (λ was. inl was)
+        ((λ h. h), λ h. h) (λ f. inl f) (λ busy. absurd (busy idle)) (λ held_now. absurd (nothing_not held_now)) (λ was. inl was) (λ f. inl f)
       where
         nothing_not : shares.Nothing ≡ shares.Held → ⊥
         nothing_not e = cc
@@ -293,17 +309,17 @@ module _ {S : Type 0} (board : S → List (std.Option Held)) (free_slots : S →
     pub parts_walk_in : 0 < parts_of v.draws → v.shares.walk ≡ shares.Nothing → ws.phase < 8589934592 → HasShare v ⊎ (v.known.seen ≡ []) → PartsOf z (record ws { phase = ws.phase + 65536 }) home (set vs id (record v { shares = with_walk v.shares shares.Held ws.phase }))
     parts_walk_in some_part free low unseen =
         parts_shares (with_walk v.shares shares.Held ws.phase) (ws.phase + 65536) (walk_held ws.phase (footings_in vs) r.phase id (footing_of v) (at_map footing_of vs id v at) some_part free low)
-        ((λ h. h), λ h. h) (λ f. inl f) (r.tied id v at).taken (λ held. inl held) (λ _. inr unseen)
+        ((λ h. h), λ h. h) (λ f. inl f) (r.tied id v at).taken (λ held. inl held) (λ _. inr unseen) (λ f. inl f)
 
     pub parts_walk_out : v.shares.walk ≡ shares.Held → PartsOf z (record ws { phase = ws.phase - 65536 }) home (set vs id (record v { shares = with_walk v.shares shares.Nothing ws.phase }))
     parts_walk_out held =
         parts_shares (with_walk v.shares shares.Nothing ws.phase) (ws.phase - 65536) (walk_out ws.phase (footings_in vs) r.phase id (footing_of v) (at_map footing_of vs id v at) (ap weight held)).1
-        ((λ h. h), λ h. h) (λ f. inl f) (r.tied id v at).taken (λ held. inl held) (λ now. absurd (walk_nothing now))
+        ((λ h. h), λ h. h) (λ f. inl f) (r.tied id v at).taken (λ held. inl held) (λ now. absurd (walk_nothing now)) (λ f. inl f)
 
     pub parts_claim : v.shares.order ≡ Free → order_of ws.phase ≡ 0 → PartsOf z (record ws { phase = ws.phase + 4294967296 }) home (set vs id (record v { shares = with_order v.shares Claimed ws.phase }))
     parts_claim free clear =
         parts_shares (with_order v.shares Claimed ws.phase) (ws.phase + 4294967296) (order_claimed ws.phase (footings_in vs) r.phase id (footing_of v) (at_map footing_of vs id v at) free clear)
-        ((λ h. absurd (claimed_not h)), λ h. absurd (free_not (sym free ∙ h))) (λ f. inl f) (λ some_taken. ⊎_elim (λ held. inl held) (λ holding. absurd (free_not (sym free ∙ holding))) ((r.tied id v at).taken some_taken)) (λ held. inl held) (λ was. inl was)
+        ((λ h. absurd (claimed_not h)), λ h. absurd (free_not (sym free ∙ h))) (λ f. inl f) (λ some_taken. ⊎_elim (λ held. inl held) (λ holding. absurd (free_not (sym free ∙ holding))) ((r.tied id v at).taken some_taken)) (λ held. inl held) (λ was. inl was) (λ f. inl f)
       where
         claimed_not : Claimed ≡ Holding → ⊥
         claimed_not e = cc
@@ -314,26 +330,26 @@ module _ {S : Type 0} (board : S → List (std.Option Held)) (free_slots : S →
     pub parts_full_claim : v.shares.order ≡ Holding → v.shares.full ≡ Free → PartsOf z (record ws { phase = ws.phase + 8589934592 }) home (set vs id (record v { shares = with_full v.shares Claimed ws.phase }))
     parts_full_claim holding free =
         parts_shares (with_full v.shares Claimed ws.phase) (ws.phase + 8589934592) (full_claimed ws.phase (footings_in vs) r.phase id (footing_of v) (at_map footing_of vs id v at) holding free).1
-        ((λ h. h), λ h. h) (λ f. absurd (free_not (sym free ∙ f))) (r.tied id v at).taken (λ held. inl held) (λ was. inl was)
+        ((λ h. h), λ h. h) (λ f. absurd (free_not (sym free ∙ f))) (r.tied id v at).taken (λ held. inl held) (λ was. inl was) (λ now. absurd (claimed_now now))
       where
         free_not : Free ≡ Holding → ⊥
         free_not e = cc
 
-    pub parts_full_hold : v.shares.full ≡ Claimed → walks_of ws.phase ≡ 0 → PartsOf z (record ws { phase = ws.phase }) home (set vs id (record v { shares = with_full v.shares Holding ws.phase }))
-    parts_full_hold claimed none_seen =
+    pub parts_full_hold : v.shares.full ≡ Claimed → walks_of ws.phase ≡ 0 → (half_in v.known ≡ r.half) × (v.known.pending ≡ r.pending) → PartsOf z (record ws { phase = ws.phase }) home (set vs id (record v { shares = with_full v.shares Holding ws.phase }))
+    parts_full_hold claimed none_seen noted =
         parts_shares (with_full v.shares Holding ws.phase) ws.phase (full_held ws.phase (footings_in vs) r.phase id (footing_of v) (at_map footing_of vs id v at) claimed none_seen)
-        ((λ h. h), λ h. h) (λ f. inl refl) (r.tied id v at).taken (λ held. inl held) (λ was. inl was)
+        ((λ h. h), λ h. h) (λ f. inl refl) (r.tied id v at).taken (λ held. inl held) (λ was. inl was) (λ _. inr noted)
 
     pub parts_full_out : v.shares.full ≡ Holding → r.half ≡ None → r.pending ≡ [] → PartsOf z (record ws { phase = ws.phase - 8589934592 }) home (set vs id (record v { shares = with_full v.shares Free ws.phase }))
     parts_full_out full none_half none_due =
         parts_shares (with_full v.shares Free ws.phase) (ws.phase - 8589934592) (full_cleared ws.phase (footings_in vs) r.phase id (footing_of v) (at_map footing_of vs id v at) (ap bit full)).1
-        ((λ h. h), λ h. h) (λ f. inr (none_half, none_due)) (r.tied id v at).taken (λ held. inl held) (λ was. inl was)
+        ((λ h. h), λ h. h) (λ f. inr (none_half, none_due)) (r.tied id v at).taken (λ held. inl held) (λ was. inl was) (λ now. absurd (free_now now))
 
     -- what was taken too high is owed, and paid back; a claim is taken back
     pub parts_op_debt : v.shares.op ≡ shares.Owed → PartsOf z (record ws { phase = ws.phase - 1 }) home (set vs id (record v { shares = with_op v.shares shares.Nothing ws.phase }))
     parts_op_debt owed =
         parts_shares (with_op v.shares shares.Nothing ws.phase) (ws.phase - 1) (op_out ws.phase (footings_in vs) r.phase id (footing_of v) (at_map footing_of vs id v at) (ap weight owed)).1
-        ((λ h. h), λ h. h) (λ f. inl f) (λ some_taken. ⊎_elim (λ held. absurd (owed_not (sym owed ∙ held))) (λ holding. inr holding) ((r.tied id v at).taken some_taken)) (λ held_now. absurd (nothing_not held_now)) (λ was. inl was)
+        ((λ h. h), λ h. h) (λ f. inl f) (λ some_taken. ⊎_elim (λ held. absurd (owed_not (sym owed ∙ held))) (λ holding. inr holding) ((r.tied id v at).taken some_taken)) (λ held_now. absurd (nothing_not held_now)) (λ was. inl was) (λ f. inl f)
       where
         nothing_not : shares.Nothing ≡ shares.Held → ⊥
         nothing_not e = cc
@@ -344,17 +360,17 @@ module _ {S : Type 0} (board : S → List (std.Option Held)) (free_slots : S →
     pub parts_walk_owed : 0 < parts_of v.draws → v.shares.walk ≡ shares.Nothing → PartsOf z (record ws { phase = ws.phase + 65536 }) home (set vs id (record v { shares = with_walk v.shares shares.Owed ws.phase }))
     parts_walk_owed some_part free =
         parts_shares (with_walk v.shares shares.Owed ws.phase) (ws.phase + 65536) (walk_owed ws.phase (footings_in vs) r.phase id (footing_of v) (at_map footing_of vs id v at) some_part free)
-        ((λ h. h), λ h. h) (λ f. inl f) (r.tied id v at).taken (λ held. inl held) (λ now. absurd (walk_owed_not now))
+        ((λ h. h), λ h. h) (λ f. inl f) (r.tied id v at).taken (λ held. inl held) (λ now. absurd (walk_owed_not now)) (λ f. inl f)
 
     pub parts_walk_debt : v.shares.walk ≡ shares.Owed → PartsOf z (record ws { phase = ws.phase - 65536 }) home (set vs id (record v { shares = with_walk v.shares shares.Nothing ws.phase }))
     parts_walk_debt owed =
         parts_shares (with_walk v.shares shares.Nothing ws.phase) (ws.phase - 65536) (walk_out ws.phase (footings_in vs) r.phase id (footing_of v) (at_map footing_of vs id v at) (ap weight owed)).1
-        ((λ h. h), λ h. h) (λ f. inl f) (r.tied id v at).taken (λ held. inl held) (λ now. absurd (walk_nothing now))
+        ((λ h. h), λ h. h) (λ f. inl f) (r.tied id v at).taken (λ held. inl held) (λ now. absurd (walk_nothing now)) (λ f. inl f)
 
     pub parts_unclaim : v.shares.order ≡ Claimed → v.shares.full ≡ Free → PartsOf z (record ws { phase = ws.phase - 4294967296 }) home (set vs id (record v { shares = with_order v.shares Free ws.phase }))
     parts_unclaim claimed free =
         parts_shares (with_order v.shares Free ws.phase) (ws.phase - 4294967296) (order_cleared ws.phase (footings_in vs) r.phase id (footing_of v) (at_map footing_of vs id v at) (ap bit claimed) free).2
-        ((λ h. absurd (free_not h)), λ h. absurd (claimed_not (sym claimed ∙ h))) (λ f. inl f) (λ some_taken. ⊎_elim (λ held. inl held) (λ holding. absurd (claimed_not (sym claimed ∙ holding))) ((r.tied id v at).taken some_taken)) (λ held. inl held) (λ was. inl was)
+        ((λ h. absurd (free_not h)), λ h. absurd (claimed_not (sym claimed ∙ h))) (λ f. inl f) (λ some_taken. ⊎_elim (λ held. inl held) (λ holding. absurd (claimed_not (sym claimed ∙ holding))) ((r.tied id v at).taken some_taken)) (λ held. inl held) (λ was. inl was) (λ f. inl f)
       where
         claimed_not : Claimed ≡ Holding → ⊥
         claimed_not e = cc
@@ -365,7 +381,7 @@ module _ {S : Type 0} (board : S → List (std.Option Held)) (free_slots : S →
     pub parts_full_unclaim : v.shares.full ≡ Claimed → PartsOf z (record ws { phase = ws.phase - 8589934592 }) home (set vs id (record v { shares = with_full v.shares Free ws.phase }))
     parts_full_unclaim claimed =
         parts_shares (with_full v.shares Free ws.phase) (ws.phase - 8589934592) (full_cleared ws.phase (footings_in vs) r.phase id (footing_of v) (at_map footing_of vs id v at) (ap bit claimed)).1
-        ((λ h. h), λ h. h) (λ f. absurd (claimed_not (sym claimed ∙ f))) (r.tied id v at).taken (λ held. inl held) (λ was. inl was)
+        ((λ h. h), λ h. h) (λ f. absurd (claimed_not (sym claimed ∙ f))) (r.tied id v at).taken (λ held. inl held) (λ was. inl was) (λ now. absurd (free_now now))
       where
         claimed_not : Claimed ≡ Holding → ⊥
         claimed_not e = cc
@@ -399,7 +415,7 @@ module _ {S : Type 0} (board : S → List (std.Option Held)) (free_slots : S →
         tt,
         end v2 (subst (λ (l : List View). PartsOf z (record (words_of z s.words) { phase = suc n }) home l) (set_twice s.views id v1 v2)
             (parts_shares z (words_of z s.words) home (set s.views id v1) p1 id v1 at1 (with_op v.shares shares.Held n) (suc n) (op_held n (footings_in (set s.views id v1)) ph1 id (footing_of v1) here1 has_part free low) ((λ h. h), λ h. h) (λ f. inl f) (λ _. inl refl)
-            (λ _. inr (unnoted, unseen, sym (orders_kept z (words_of z s.words) home s.views p id v at))) (λ was. inl was))),
+            (λ _. inr (unnoted, unseen, sym (orders_kept z (words_of z s.words) home s.views p id v at))) (λ was. inl was) (λ f. inl f))),
         ((λ _. (p.orders.variables, p.orders.elements, refl)), (λ high. absurd (omega (arith, low, high)))),
       ))
       (λ no_low. (
@@ -407,7 +423,7 @@ module _ {S : Type 0} (board : S → List (std.Option Held)) (free_slots : S →
         keeps,
         tt,
         end (record v { shares = with_op v.shares shares.Owed n }) (parts_shares z (words_of z s.words) home s.views p id v at (with_op v.shares shares.Owed n) (suc n) (op_owed n (footings_in s.views) ph id (footing_of v) here has_part free) ((λ h. h), λ h. h) (λ f. inl f)
-            (λ some_taken. inr (⊎_elim (λ held. absurd (never (sym free ∙ held))) (λ holding. holding) ((p.tied id v at).taken some_taken))) (λ held_now. absurd (owed_not held_now)) (λ was. inl was)),
+            (λ some_taken. inr (⊎_elim (λ held. absurd (never (sym free ∙ held))) (λ holding. holding) ((p.tied id v at).taken some_taken))) (λ held_now. absurd (owed_not held_now)) (λ was. inl was) (λ f. inl f)),
         ((λ low. absurd (no_low low)), (λ _. refl)),
       ))
     where

@@ -38,6 +38,7 @@ use Rattle.words_rule.proofs.Narrowing.{can_up, values_same}
 use Rattle.words_rule.proofs.Meeting.{word_stands, narrow}
 use Rattle.words_rule.proofs.NodeLoads.{lists_on, walk_in}
 use Rattle.words_rule.proofs.HandClauses.{stands_at, none_back}
+use Rattle.words_rule.specs.FreeSlots.{FreeSlots}
 
 some_job : (a b : Job) → Some a ≡ Some b → a ≡ b
 some_job a b e = cc
@@ -59,7 +60,7 @@ pub level_is_turn : (v : View) (o : Own) (word : Word) → level_of (shape_in v.
 level_is_turn v o (Inner node) = refl
 level_is_turn v o (Leaf x) = refl
 
-module _ {S : Type 0} (board : S → List (std.Option Held)) (free_slots : S → List ℕ) (memo : S → List ℕ) where
+module _ {S : Type 0} (board : S → List (std.Option Held)) (free_slots : S → FreeSlots) (memo : S → List ℕ) where
   abbrev PartsOf : Shape → Words → (ℕ → Option (Option (std.Option S))) → List View → Type 0
   PartsOf = Parts board free_slots memo
 
@@ -108,16 +109,16 @@ module _ {S : Type 0} (board : S → List (std.Option Held)) (free_slots : S →
 
   -- take_slot
   pub step_take_slot : (slots id : ℕ) (me : Sat) (o : Own) (slot bits : ℕ) (list : List ℕ) (x : S) (word : Word) → me.0.draws.live ≡ true → me.0.shares.op ≡ shares.Held → me.1 ≡ (1, Some x) ∷ rest me.1
-      → (known_of me.0 o).hand.free ≡ Some (slot ∷ list) → free_slots x ≡ list → ((known_of me.0 o).hand.taken ≡ None) × ((known_of me.0 o).hand.loose ≡ None) → bits < 18446744073709551616 → (wanted : IsWanted (known_of me.0 o) bits word)
+      → (known_of me.0 o).hand.free ≡ Some (slot ∷ list) → (free_slots x).slots ≡ list → (free_slots x).room ≡ me.0.draws.slots → ((known_of me.0 o).hand.taken ≡ None) × ((known_of me.0 o).hand.loose ≡ None) → bits < 18446744073709551616 → (wanted : IsWanted (known_of me.0 o) bits word)
       → Allows TheRule slots id me 3 (λ _. 0) (λ _ m. HasTaken bits slot me m)
-  step_take_slot slots id me o slot bits list x word live share has free gave calm small wanted s r long at below =
+  step_take_slot slots id me o slot bits list x word live share has free gave roomy calm small wanted s r long at below =
       let v = me.0 in
       let K : Knowledge = known_of v o in
       let job : Job = job_for K slot word wanted.may in
       let slot_is : slot_of job ≡ slot = job_slot K slot word wanted.may in
       let word_is : word_of job ≡ word = job_word K slot word wanted.may in
       let y = takes_slot board free_slots memo slots id me job list x live has (inl share) (free ∙ ap (λ (q : ℕ). Some (q ∷ list)) (sym slot_is)) (none_back taken_of v.hand.taken calm.0)
-      (subst (λ (l : ℕ). HasLevel v.hand l) (sym (level_is_turn v o word) ∙ ap (level_of (shape_in v.draws)) (sym word_is)) (stands_at v.hand.levels (knowing.turn_of K.view word) wanted.turn)) gave
+      (subst (λ (l : ℕ). HasLevel v.hand l) (sym (level_is_turn v o word) ∙ ap (level_of (shape_in v.draws)) (sym word_is)) (stands_at v.hand.levels (knowing.turn_of K.view word) wanted.turn)) gave roomy
       (λ t r at. wanted_due r.shape (words_of r.shape t.words) (λ (k : ℕ). get_elem? t.homes k) t.views r.parts id v at live share (r.parts.ordered.shared id v at share) o slot bits word wanted small calm.1)
       s r long at below in
       let told = y.4 in

@@ -40,6 +40,7 @@ use Rattle.words_rule.proofs.Handed.{handed, parts_store, stored_function}
 use Rattle.words_rule.proofs.Rewrites.{parts_known}
 use Rattle.words_rule.proofs.Stepping.{shape_is}
 use Rattle.words_rule.proofs.Tabling.{set_set, after_word, pushes_slot, pushed_it}
+use Rattle.words_rule.specs.FreeSlots.{FreeSlots}
 
 -- a view with a word and a function more
 abbrev pub noting_slot : View → SeenWord → Held → View
@@ -48,7 +49,7 @@ noting_slot v note held = record v { known = record v.known { words = note ∷ v
 abbrev pub edge_at : ℕ → Function → Held
 edge_at s f = record { edge = record { index = s; complement = false }; function = f }
 
-module _ {S : Type 0} (board : S → List (std.Option Held)) (free_slots : S → List ℕ) (memo : S → List ℕ) where
+module _ {S : Type 0} (board : S → List (std.Option Held)) (free_slots : S → FreeSlots) (memo : S → List ℕ) where
   abbrev PartsOf : Shape → Words → (ℕ → Option (Option (std.Option S))) → List View → Type 0
   PartsOf = Parts board free_slots memo
 
@@ -73,7 +74,7 @@ module _ {S : Type 0} (board : S → List (std.Option Held)) (free_slots : S →
               (λ i u apart there. r.ordered.held i u there) (r.ordered.held id v at);
         })
         (by_full (r.half ≡ None) vs id v w at refl r.half_by) (by_pending r.pending vs id v w at refl refl r.pending_by)
-        (record { words = λ has. (stands, (r.seen id v at).words has); held = λ has. (is_held, (r.seen id v at).held has) })
+        (record { words = λ has. (stands, (r.seen id v at).words has); held = λ has. (is_held, (r.seen id v at).held has) }) (r.holders id v at) (λ i y apart there. r.holders i y there)
 
   module _ (z : Shape) (ws : Words) (home : ℕ → Option (Option (std.Option S))) (vs : List View) (r : PartsOf z ws home vs) (id : ℕ) (v : View) (at : get_elem? vs id ≡ some v) where
     pub notes_orders : (note : SeenWord) (held : Held) (stands : StandsSo ws.node v note) (is_held : IsHeldBy z r.function held) → (parts_notes z ws home vs r id v at note held stands is_held).orders ≡ r.orders

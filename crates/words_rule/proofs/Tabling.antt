@@ -32,9 +32,9 @@ use Rattle.words_rule.proofs.Handling.{never as no_some, hands_it, takes_level, 
 use Rattle.words_rule.proofs.Linking.{hand_links, head_within, next_is}
 use Rattle.words_rule.specs.Chains.{Along}
 use Rattle.words_rule.proofs.Lists.{set_at}
-use Rattle.words_rule.proofs.Draws.{by_full}
 use Rattle.words_rule.proofs.Handed.{handed, parts_hand, remembered_here, seen_here, hand_at, parts_store, parts_link, parts_push, parts_walk}
 use Rattle.words_rule.proofs.Stepping.{shape_is}
+use Rattle.words_rule.specs.FreeSlots.{FreeSlots}
 
 abbrev pub is_holding : Hold → Bool
 is_holding Holding = true
@@ -45,7 +45,7 @@ set_set [] i a b = refl
 set_set (x ∷ xs) zero a b = refl
 set_set (x ∷ xs) (suc i) a b = ap (λ (l : List _). x ∷ l) (set_set xs i a b)
 
-module _ {S : Type 0} (board : S → List (std.Option Held)) (free_slots : S → List ℕ) (memo : S → List ℕ) where
+module _ {S : Type 0} (board : S → List (std.Option Held)) (free_slots : S → FreeSlots) (memo : S → List ℕ) where
   abbrev PartsOf : Shape → Words → (ℕ → Option (Option (std.Option S))) → List View → Type 0
   PartsOf = Parts board free_slots memo
 
@@ -90,12 +90,12 @@ module _ {S : Type 0} (board : S → List (std.Option Held)) (free_slots : S →
       let h : Hand = with_level l v.hand in
       let t = p.tied id v at in
       let at_hand = hand_at board free_slots memo z ws home s.views p id v at in
-      let parts = parts_hand board free_slots memo z ws home s.views p id v at h ws.free_turn ws.memo_turn (put_at ws.turn l new) ws.node ws.next ws.head home p.function p.half p.on p.chain refl p.kept p.sound
+      let parts = parts_hand board free_slots memo z ws home s.views p id v at h ws.free_turn ws.memo_turn (put_at ws.turn l new) ws.node ws.next ws.head home p.function p.on p.chain refl p.kept p.sound
       (remembered_here board free_slots memo z ws home s.views p id v at h refl home refl ws.node p.function p.half (λ s f is. is))
       (takes_level free_slots z (content_of z ws.node p.orders p.function p.half) p.on ws.free_turn ws.turn home (hands_in s.views) p.tables id v.hand at_hand l new below (turn_is ∙ hit) nonzero)
       (hand_links z ws.node ws.next ws.head p.on p.chain (hands_in s.views) p.linked id h (p.linked.links id v.hand at_hand) (p.linked.walks id v.hand at_hand) (p.linked.wholes id v.hand at_hand))
       (record { zeros = t.zeros; pins = t.pins; taken = t.taken; alone = t.alone; dead = λ gone. absurd (true≢false (sym live ∙ gone)) })
-      (by_full (p.half ≡ None) s.views id v (handed v h) at refl p.half_by) (seen_here board free_slots memo z ws home s.views p id v at h) in (
+      (seen_here board free_slots memo z ws home s.views p id v at h) in (
         handed v h,
         keeps,
         tt,
@@ -132,14 +132,14 @@ module _ {S : Type 0} (board : S → List (std.Option Held)) (free_slots : S →
       let t = p.tied id v at in
       let at_hand = hand_at board free_slots memo z ws home s.views p id v at in
       let still = hands_it free_slots z w p.on ws.free_turn ws.turn home (hands_in s.views) p.tables id v.hand at_hand calm refl refl refl refl (λ n its. absurd (no_some n its)) in
-      let parts = parts_hand board free_slots memo z ws home s.views p id v at h ws.free_turn ws.memo_turn (put_at ws.turn l 0) ws.node ws.next ws.head home p.function p.half p.on p.chain refl p.kept p.sound
+      let parts = parts_hand board free_slots memo z ws home s.views p id v at h ws.free_turn ws.memo_turn (put_at ws.turn l 0) ws.node ws.next ws.head home p.function p.on p.chain refl p.kept p.sound
       (remembered_here board free_slots memo z ws home s.views p id v at h refl home refl ws.node p.function p.half (λ s f is. is))
       (subst (Tables free_slots z w p.on ws.free_turn (put_at ws.turn l 0) home) (set_set (hands_in s.views) id calm h)
       (puts_level free_slots z w p.on ws.free_turn ws.turn home (set (hands_in s.views) id calm) still id calm (set_at (hands_in s.views) id v.hand calm at_hand) l has
       (λ b its. subst (λ (y : Shape). level_of y (word_of b) ≢ l) (sym shape) (off_taken b its)) (λ q word its. absurd (no_some q (sym none_loose ∙ its))) (λ n its. absurd (no_some n its))))
       (hand_links z ws.node ws.next ws.head p.on p.chain (hands_in s.views) p.linked id h (p.linked.links id v.hand at_hand) (λ n its. absurd (no_some n its)) (λ n its. absurd (no_some n its)))
       (record { zeros = t.zeros; pins = t.pins; taken = λ busy. t.taken (λ idle. busy (idle.0, idle.1, refl)); alone = λ n its. absurd (no_some n its); dead = λ gone. absurd (true≢false (sym live ∙ gone)) })
-      (by_full (p.half ≡ None) s.views id v (handed v h) at refl p.half_by) (seen_here board free_slots memo z ws home s.views p id v at h) in (
+      (seen_here board free_slots memo z ws home s.views p id v at h) in (
         handed v h,
         keeps,
         tt,
@@ -148,7 +148,7 @@ module _ {S : Type 0} (board : S → List (std.Option Held)) (free_slots : S →
       )
 
   abbrev pub took_free : Step (std.Option S) → Sat → ℕ → Sat → Type 0
-  took_free st m n m' = (n ≡ 0 → (x : S) × (m' ≡ (handed m.0 (record m.0.hand { free = Some (free_slots x) }), (1, Some x) ∷ m.1))) × (n ≢ 0 → m' ≡ m)
+  took_free st m n m' = (n ≡ 0 → (x : S) × (m' ≡ (handed m.0 (record m.0.hand { free = Some (free_slots x).slots }), (1, Some x) ∷ m.1)) × ((free_slots x).room ≡ m.0.draws.slots)) × (n ≢ 0 → m' ≡ m)
 
   -- the free list is taken
   pub takes_free_list : (slots id : ℕ) (me : Sat) (new : ℕ) → me.0.draws.live ≡ true → new ≢ 0
@@ -164,24 +164,24 @@ module _ {S : Type 0} (board : S → List (std.Option Held)) (free_slots : S →
       (λ hit.
       let y = p.tables.free_home hit in
       let x : S = y.1 in
-      let h : Hand = record v.hand { free = Some (free_slots x) } in
+      let h : Hand = record v.hand { free = Some (free_slots x).slots } in
       let hs = set s.homes 1 none in
       let t = p.tied id v at in
       let at_hand = hand_at board free_slots memo z ws home s.views p id v at in
-      let parts = parts_hand board free_slots memo z ws home s.views p id v at h new ws.memo_turn ws.turn ws.node ws.next ws.head (λ k. get_elem? hs k) p.function p.half p.on p.chain
+      let parts = parts_hand board free_slots memo z ws home s.views p id v at h new ws.memo_turn ws.turn ws.node ws.next ws.head (λ k. get_elem? hs k) p.function p.on p.chain
       (set_else s.homes 1 0 none (λ e. omega (arith, e))) p.kept p.sound
       (remembered_here board free_slots memo z ws home s.views p id v at h refl (λ k. get_elem? hs k) (set_else s.homes 1 2 none (λ e. omega (arith, e))) ws.node p.function p.half (λ s f is. is))
       (subst (λ (l : List ℕ). Tables free_slots z (content_of z ws.node p.orders p.function p.half) p.on new ws.turn (λ k. get_elem? hs k) (set (hands_in s.views) id (record v.hand { free = Some l }))) (sym y.3)
       (takes_free free_slots z (content_of z ws.node p.orders p.function p.half) p.on ws.free_turn ws.turn home (hands_in s.views) p.tables id v.hand at_hand new (λ k. get_elem? hs k) hit nonzero))
       (hand_links z ws.node ws.next ws.head p.on p.chain (hands_in s.views) p.linked id h (p.linked.links id v.hand at_hand) (p.linked.walks id v.hand at_hand) (p.linked.wholes id v.hand at_hand))
       (record { zeros = t.zeros; pins = t.pins; taken = t.taken; alone = t.alone; dead = λ gone. absurd (true≢false (sym live ∙ gone)) })
-      (by_full (p.half ≡ None) s.views id v (handed v h) at refl p.half_by) (seen_here board free_slots memo z ws home s.views p id v at h) in (
+      (seen_here board free_slots memo z ws home s.views p id v at h) in (
         handed v h,
         takes 1 (Some x),
         y.2,
         subst (λ b. TheRule (stepped s 3 (either b new n) id me.1 (handed v h) (takes 1 (Some x)))) (sym (eq-eqb n 0 hit))
             (after_word s r 3 new (set s.views id (handed v h)) hs (record ws { free_turn = new }) (length-set s.homes 1 none) (set_free_turn z s.words new (let l = r.wide in omega (arith, l))) parts),
-        ((λ _. (x, refl)), (λ miss. absurd (miss hit))),
+        ((λ _. (x, refl, y.4 ∙ ap (λ (q : Shape). q.slots) (shape_is board free_slots memo z ws home s.views p id v at live))), (λ miss. absurd (miss hit))),
       ))
       (λ miss. (
         v,
@@ -196,10 +196,10 @@ module _ {S : Type 0} (board : S → List (std.Option Held)) (free_slots : S →
 
   -- The free list is put back without its first slot, which is taken for what is due: its level's turn is in hand.
   pub takes_slot : (slots id : ℕ) (me : Sat) (due : Job) (list : List ℕ) (x : S) → me.0.draws.live ≡ true → me.1 ≡ (1, Some x) ∷ rest me.1 → (me.0.shares.op ≡ shares.Held) ⊎ (me.0.shares.order ≡ Holding)
-      → me.0.hand.free ≡ Some ((slot_of due) ∷ list) → me.0.hand.taken ≡ None → HasLevel me.0.hand (level_of (shape_in me.0.draws) (word_of due)) → free_slots x ≡ list
+      → me.0.hand.free ≡ Some ((slot_of due) ∷ list) → me.0.hand.taken ≡ None → HasLevel me.0.hand (level_of (shape_in me.0.draws) (word_of due)) → (free_slots x).slots ≡ list → (free_slots x).room ≡ me.0.draws.slots
       → ((s : State (std.Option S) View) (r : TheRule s) → get_elem? s.views id ≡ some me.0 → IsToDo (content_of r.shape (words_of r.shape s.words).node r.parts.orders r.parts.function r.parts.half) due)
       → Allows TheRule slots id me 3 (λ _. 0) (took_slot due (step slots 3 0 0 none) me)
-  takes_slot slots id me due list x live has share free none_taken level gave is_due s r long at small =
+  takes_slot slots id me due list x live has share free none_taken level gave roomy is_due s r long at small =
       let v = me.0 in
       let z = r.shape in
       let p = r.parts in
@@ -210,14 +210,14 @@ module _ {S : Type 0} (board : S → List (std.Option Held)) (free_slots : S →
       let hs = set s.homes 1 (some (Some x)) in
       let t = p.tied id v at in
       let at_hand = hand_at board free_slots memo z ws home s.views p id v at in
-      let parts = parts_hand board free_slots memo z ws home s.views p id v at h 0 ws.memo_turn ws.turn ws.node ws.next ws.head (λ k. get_elem? hs k) p.function p.half p.on p.chain
+      let parts = parts_hand board free_slots memo z ws home s.views p id v at h 0 ws.memo_turn ws.turn ws.node ws.next ws.head (λ k. get_elem? hs k) p.function p.on p.chain
       (set_else s.homes 1 0 (some (Some x)) (λ e. omega (arith, e))) p.kept p.sound
       (remembered_here board free_slots memo z ws home s.views p id v at h refl (λ k. get_elem? hs k) (set_else s.homes 1 2 (some (Some x)) (λ e. omega (arith, e))) ws.node p.function p.half (λ s f is. is))
       (puts_free free_slots z (content_of z ws.node p.orders p.function p.half) p.on ws.free_turn ws.turn home (hands_in s.views) p.tables id v.hand at_hand
-      due list (λ k. get_elem? hs k) x free none_taken (is_due s r at) (subst (λ (y : Shape). HasLevel v.hand (level_of y (word_of due))) (sym shape) level) refl gave (set_here s.homes 1 (some (Some x)) (let e = r.long in omega (arith, e))))
+      due list (λ k. get_elem? hs k) x free none_taken (is_due s r at) (subst (λ (y : Shape). HasLevel v.hand (level_of y (word_of due))) (sym shape) level) refl gave (roomy ∙ ap (λ (y : Shape). y.slots) (sym shape)) (set_here s.homes 1 (some (Some x)) (let e = r.long in omega (arith, e))))
       (hand_links z ws.node ws.next ws.head p.on p.chain (hands_in s.views) p.linked id h (λ k its. absurd (no_some k its)) (p.linked.walks id v.hand at_hand) (p.linked.wholes id v.hand at_hand))
       (record { zeros = t.zeros; pins = t.pins; taken = λ _. share; alone = t.alone; dead = λ gone. absurd (true≢false (sym live ∙ gone)) })
-      (by_full (p.half ≡ None) s.views id v (handed v h) at refl p.half_by) (seen_here board free_slots memo z ws home s.views p id v at h) in (
+      (seen_here board free_slots memo z ws home s.views p id v at h) in (
         handed v h,
         gives,
         tt,
@@ -230,9 +230,9 @@ module _ {S : Type 0} (board : S → List (std.Option Held)) (free_slots : S →
   gave_free st m n m' = m' ≡ (handed m.0 (record m.0.hand { free = None }), rest m.1)
 
   -- the free list is put back as it is
-  pub gives_free_list : (slots id : ℕ) (me : Sat) (list : List ℕ) (x : S) → me.0.draws.live ≡ true → me.1 ≡ (1, Some x) ∷ rest me.1 → me.0.hand.free ≡ Some list → free_slots x ≡ list
+  pub gives_free_list : (slots id : ℕ) (me : Sat) (list : List ℕ) (x : S) → me.0.draws.live ≡ true → me.1 ≡ (1, Some x) ∷ rest me.1 → me.0.hand.free ≡ Some list → (free_slots x).slots ≡ list → (free_slots x).room ≡ me.0.draws.slots
       → Allows TheRule slots id me 3 (λ _. 0) (gave_free (step slots 3 0 0 none) me)
-  gives_free_list slots id me list x live has free gave s r long at small =
+  gives_free_list slots id me list x live has free gave roomy s r long at small =
       let v = me.0 in
       let z = r.shape in
       let p = r.parts in
@@ -242,14 +242,14 @@ module _ {S : Type 0} (board : S → List (std.Option Held)) (free_slots : S →
       let hs = set s.homes 1 (some (Some x)) in
       let t = p.tied id v at in
       let at_hand = hand_at board free_slots memo z ws home s.views p id v at in
-      let parts = parts_hand board free_slots memo z ws home s.views p id v at h 0 ws.memo_turn ws.turn ws.node ws.next ws.head (λ k. get_elem? hs k) p.function p.half p.on p.chain
+      let parts = parts_hand board free_slots memo z ws home s.views p id v at h 0 ws.memo_turn ws.turn ws.node ws.next ws.head (λ k. get_elem? hs k) p.function p.on p.chain
       (set_else s.homes 1 0 (some (Some x)) (λ e. omega (arith, e))) p.kept p.sound
       (remembered_here board free_slots memo z ws home s.views p id v at h refl (λ k. get_elem? hs k) (set_else s.homes 1 2 (some (Some x)) (λ e. omega (arith, e))) ws.node p.function p.half (λ s f is. is))
-      (puts_back free_slots z (content_of z ws.node p.orders p.function p.half) p.on ws.free_turn ws.turn home (hands_in s.views) p.tables id v.hand at_hand list (λ k. get_elem? hs k) x free gave
+      (puts_back free_slots z (content_of z ws.node p.orders p.function p.half) p.on ws.free_turn ws.turn home (hands_in s.views) p.tables id v.hand at_hand list (λ k. get_elem? hs k) x free gave (roomy ∙ ap (λ (q : Shape). q.slots) (sym (shape_is board free_slots memo z ws home s.views p id v at live)))
       (set_here s.homes 1 (some (Some x)) (let e = r.long in omega (arith, e))))
       (hand_links z ws.node ws.next ws.head p.on p.chain (hands_in s.views) p.linked id h (p.linked.links id v.hand at_hand) (p.linked.walks id v.hand at_hand) (p.linked.wholes id v.hand at_hand))
       (record { zeros = t.zeros; pins = t.pins; taken = t.taken; alone = t.alone; dead = λ gone. absurd (true≢false (sym live ∙ gone)) })
-      (by_full (p.half ≡ None) s.views id v (handed v h) at refl p.half_by) (seen_here board free_slots memo z ws home s.views p id v at h) in (
+      (seen_here board free_slots memo z ws home s.views p id v at h) in (
         handed v h,
         gives,
         tt,

@@ -45,8 +45,9 @@ use Rattle.words_rule.proofs.Meeting.{kind_of, seen_true, some_denoted}
 use Rattle.words_rule.proofs.Narrowing.{Narrow, Known, is_up, values_same}
 use Rattle.words_rule.proofs.HandClauses.{some_back}
 use Rattle.words_rule.proofs.WalkLoads.{levelless, denotes_to, tells_word, tells_down}
+use Rattle.words_rule.specs.FreeSlots.{FreeSlots}
 
-module _ {S : Type 0} (board : S → List (std.Option Held)) (free_slots : S → List ℕ) (memo : S → List ℕ) where
+module _ {S : Type 0} (board : S → List (std.Option Held)) (free_slots : S → FreeSlots) (memo : S → List ℕ) where
   abbrev PartsOf : Shape → Words → (ℕ → Option (Option (std.Option S))) → List View → Type 0
   PartsOf = Parts board free_slots memo
 
@@ -74,7 +75,7 @@ module _ {S : Type 0} (board : S → List (std.Option Held)) (free_slots : S →
               (λ i f apart there. r.ordered.held i f there) (r.ordered.held id v at);
         })
         (by_full (r.half ≡ None) vs id v u at refl r.half_by) (by_pending r.pending vs id v u at refl refl r.pending_by)
-        (record { words = (r.seen id v at).words; held = λ has. all })
+        (record { words = (r.seen id v at).words; held = λ has. all }) (r.holders id v at) (λ i y apart there. r.holders i y there)
 
     longer : (k : Kind) (u : ℕ) → Beyond z k u → IsBeyond k (view_of w) u
     longer Bdd u h = subst (λ (x : ℕ). x ≤ u) (sym r.positions.variables_long) h

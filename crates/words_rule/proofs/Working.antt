@@ -9,6 +9,7 @@ use Rattle.function_laws.specs.SessionEntries.{Each}
 use Rattle.function_laws.specs.Tables.{Sizes}
 use Rattle.function_laws.specs.EntryOrders.{opening_orders, orders_from}
 use Rattle.words_rule.specs.Generations.{IsOfSlot}
+use Rattle.words_rule.specs.Holders.{IsHolder}
 use Rattle.words_rule.specs.declared.view.Held.{Held}
 use Rattle.words_rule.specs.declared.view.Draws.{Draws}
 use Rattle.words_rule.specs.declared.view.View.{View}
@@ -28,8 +29,9 @@ use Rattle.words_rule.proofs.Draws.{frame, by_full, by_pending}
 use Rattle.words_rule.proofs.Handed.{ordered_same}
 use Rattle.node_store.specs.Contents.{view_of}
 use Rattle.words_rule.specs.Remembered.{Remembered}
+use Rattle.words_rule.specs.FreeSlots.{FreeSlots}
 
-module _ {S : Type 0} (board : S → List (std.Option Held)) (free_slots : S → List ℕ) (memo : S → List ℕ) where
+module _ {S : Type 0} (board : S → List (std.Option Held)) (free_slots : S → FreeSlots) (memo : S → List ℕ) where
   abbrev PartsOf : Shape → Words → (ℕ → Option (Option (std.Option S))) → List View → Type 0
   PartsOf = Parts board free_slots memo
 
@@ -68,6 +70,7 @@ module _ {S : Type 0} (board : S → List (std.Option Held)) (free_slots : S →
         sized = each_set (λ i (f : View). (f.draws.live ≡ true) ⊎ (f.draws.closing ≡ true) → f.draws.slots ≡ z.slots) vs id w (λ i f apart there. r.sized i f there) (r.sized id v at);
         pending_by = by_pending r.pending vs id v w at refl refl r.pending_by;
         seen = seen_other z ws.node r.function vs r.seen id w (record { words = (r.seen id v at).words; held = (r.seen id v at).held });
+        holders = each_set (λ _ (u : View). IsHolder ws.count r.half r.pending u) vs id w (λ i u apart there. r.holders i u there) (r.holders id v at);
         generations = each_set (λ _ (u : View). Each (IsOfSlot ws.count u) u.counts.generations) vs id w (λ i u apart there. r.generations i u there) (r.generations id v at);
       }
 

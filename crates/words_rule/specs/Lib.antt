@@ -1,3 +1,4 @@
+pub mod FreeSlots
 pub mod Chains
 pub mod Layout
 pub mod Shapes
@@ -16,17 +17,21 @@ pub mod Moves
 pub mod Seen
 pub mod Generations
 pub mod Halves
+pub mod Holders
 pub mod Rule
 pub mod Openings
 pub mod Passes
 pub mod Walks
 pub mod Known
+pub mod HeldContents
 pub mod Loads
 pub mod Refusals
 pub mod Plays
 pub mod PhasePlays
 pub mod CountPlays
 pub mod CountLoads
+pub mod Exchanges
+pub mod HolderPlays
 pub mod Walkers
 pub mod Tokens
 pub mod Aparts

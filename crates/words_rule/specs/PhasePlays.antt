@@ -74,7 +74,7 @@ module _ {S : Type 0} where
   abbrev pub order_looked : Step S → Me S View → ℕ → Me S View → Type 0
   order_looked st m n m' =
       (ops_of n ≡ 0 → (variables elements : List ℕ)
-      × (m' ≡ (record m.0 { shares = with_order m.0.shares Holding n; known = record m.0.known { variable_order = variables; element_order = elements; told_variables = variables; told_elements = elements; words = []; seen = [] } }, m.1)))
+      × (m' ≡ (record m.0 { shares = with_order m.0.shares Holding n; known = record m.0.known { variable_order = variables; element_order = elements; told_variables = variables; told_elements = elements; words = []; seen = []; ages = [] } }, m.1)))
       × (ops_of n ≢ 0 → m' ≡ m)
 
   -- a claim is taken back

@@ -24,6 +24,7 @@ use Rattle.words_rule.specs.Hands.{place_of, linking, pushing, taking, with_leve
 use Rattle.words_rule.specs.Known.{Own, known_of, own_none, with_made}
 use Rattle.words_rule.specs.Loads.{IsSeatOf, LearntMemo, LoadedNode, LoadedWord, StoredNode, seeing}
 use Rattle.edge_bits.specs.Permanent.{first_element}
+use Rattle.words_rule.specs.FreeSlots.{FreeSlots}
 
 module _ {S : Type 0} where
   -- an operation share: it is held, or there was a bit
@@ -107,9 +108,9 @@ module _ {S : Type 0} where
   abbrev pub board_given : Step S → Me S View → ℕ → Me S View → Type 0
   board_given st m n m' = m' ≡ (record m.0 { draws = letting_go m.0.draws }, rest m.1)
 
-module _ {S : Type 0} (free_slots : S → List ℕ) where
+module _ {S : Type 0} (free_slots : S → FreeSlots) where
   abbrev pub free_taken : Step (std.Option S) → Me (std.Option S) View → ℕ → Me (std.Option S) View → Type 0
-  free_taken st m n m' = (m'.0.draws ≡ m.0.draws) × (n ≡ 0 → (x : S) × (m' ≡ (record m.0 { hand = record m.0.hand { free = Some (free_slots x) } }, (1, Some x) ∷ m.1))) × (n ≢ 0 → m' ≡ m)
+  free_taken st m n m' = (m'.0.draws ≡ m.0.draws) × (n ≡ 0 → (x : S) × (m' ≡ (record m.0 { hand = record m.0.hand { free = Some (free_slots x).slots } }, (1, Some x) ∷ m.1)) × ((free_slots x).room ≡ m.0.draws.slots)) × (n ≢ 0 → m' ≡ m)
 
 module _ {S : Type 0} (memo : S → List ℕ) where
   abbrev pub memo_taken : Own → Step (std.Option S) → Me (std.Option S) View → ℕ → Me (std.Option S) View → Type 0

@@ -24,6 +24,7 @@ use Rattle.words_rule.specs.Loads.{TakenReads}
 use Rattle.words_rule.specs.Passes.{view, in_hand, IsLiveOf}
 use Rattle.words_rule.specs.Remembered.{AreAnswers}
 use Rattle.words_rule.specs.Views.{blank}
+use Rattle.words_rule.specs.FreeSlots.{FreeSlots, slots_in}
 
 -- what it knows, with room for so many levels in the scratch beside it
 abbrev pub knows : View → ℕ → Knowledge
@@ -69,7 +70,7 @@ abbrev pub due_at : views.View → Job → Denoted
 due_at w (jobs.Node v hi lo) = function_of (kind_at (function_at w hi)) (node_values (kind_at (function_at w hi)) w v hi lo)
 due_at w (jobs.Leaf x) = function_of Add (constant x)
 
-module _ {S : Type 0} (free_slots memo : S → List ℕ) where
+module _ {S : Type 0} (free_slots : S → FreeSlots) (memo : S → List ℕ) where
   -- an operation share alone, with the free list and the computed table where it has them in hand
   pub record IsOperating (g : Guard S) (p : Pass S) (list table : Option S) (room : ℕ) : Type 0 where
     pub own : IsLiveOf g p
@@ -78,7 +79,8 @@ module _ {S : Type 0} (free_slots memo : S → List ℕ) where
     pub stands : Stands (knows (view p) room)
     pub within : LiesWithin (knows (view p) room)
     pub reads : TakenReads (view p)
-    pub list_is : (view p).hand.free ≡ option_map free_slots list
+    pub list_is : (view p).hand.free ≡ option_map (slots_in free_slots) list
+    pub roomy : (x : S) → list ≡ Some x → (free_slots x).room ≡ (view p).draws.slots
     pub table_is : (view p).hand.memo ≡ is_there table
     pub answers : (x : S) → table ≡ Some x → AreAnswers (knows (view p) room).view (memo x)
     pub out : in_hand p ≡ out_of 1 list ++ out_of 2 table

@@ -150,7 +150,7 @@ with_gone d e = record d { rows = d.rows ++ e.rows; gone = d.gone ++ gone_of e â
 
 -- nothing stored, nothing refused
 abbrev pub no_work : Work
-no_work = record { made = []; fulls = 0; due = None }
+no_work = record { made = []; fulls = 0; due = None; counts = [] }
 
 -- the slot 0, and no values
 abbrev pub no_held : Held

@@ -167,7 +167,8 @@ impl<S: Content + Drop> Guard<S> {
         requires room { FIRST_PROJECTION + key.now.vars ≤ key.now.slots }
         requires cells { length (S.board board) ≡ CELLS }
         requires empty { cell_in (S.board board) ≡ (λ (i : ℕ). None) }
-        requires free { AreFree (shape_of key.now) (S.free_slots free) }
+        requires free { AreFree (shape_of key.now) (S.free_slots free).slots }
+        requires roomy { (S.free_slots free).room ≡ key.now.slots }
         requires places { 0 < answer_places (S.memo answers) }
         requires blank { (i : ℕ) → kept_at (S.memo answers) i ≡ None }
         ensures { IfOk result (λ r. IsClosingOf r.0 r.1 × (known r.1 ≡ closing_of key.now)) }

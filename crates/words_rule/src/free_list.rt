@@ -22,7 +22,7 @@ impl<S: Content> Guard<S> {
     pub fn take_free(&self, pass: &mut Pass<S>) -> Option<S>
         requires own { IsLiveOf self.now pass.old }
         ensures own { IsPassOf self.now pass.new }
-        ensures taken { IfSome result (λ x. (view pass.new ≡ record (view pass.old) { hand = record (view pass.old).hand { free = Some (S.free_slots x) } }) × (in_hand pass.new ≡ (1, None) ∷ in_hand pass.old)) }
+        ensures taken { IfSome result (λ x. (view pass.new ≡ record (view pass.old) { hand = record (view pass.old).hand { free = Some (S.free_slots x).slots } }) × (in_hand pass.new ≡ (1, None) ∷ in_hand pass.old) × ((S.free_slots x).room ≡ (view pass.old).draws.slots)) }
         ensures missed { IfNone result (me pass.new ≡ me pass.old) }
     {
         let mine = u64::from(pass.number) + 1;
@@ -42,7 +42,8 @@ impl<S: Content> Guard<S> {
         requires own { IsLiveOf self.now pass.old }
         requires share { (view pass.old).shares.op ≡ shares.Held }
         requires hand { in_hand pass.old ≡ (1, None) ∷ rest (in_hand pass.old) }
-        requires free { (slot : ℕ) × ((view pass.old).hand.free ≡ Some (slot ∷ S.free_slots content)) }
+        requires free { (slot : ℕ) × ((view pass.old).hand.free ≡ Some (slot ∷ (S.free_slots content).slots)) }
+        requires roomy { (S.free_slots content).room ≡ (view pass.old).draws.slots }
         requires calm { ((view pass.old).hand.taken ≡ None) × ((view pass.old).hand.loose ≡ None) }
         requires bits { E.bits < 18446744073709551616 }
         requires wanted { (word : Word) × IsWanted (known_of (view pass.old) E.own) E.bits word }
@@ -66,7 +67,8 @@ impl<S: Content> Guard<S> {
     pub fn give_empty<E: Refused>(&self, pass: &mut Pass<S>, content: S)
         requires own { IsLiveOf self.now pass.old }
         requires hand { in_hand pass.old ≡ (1, None) ∷ rest (in_hand pass.old) }
-        requires empty { ((view pass.old).hand.free ≡ Some []) × (S.free_slots content ≡ []) }
+        requires roomy { (S.free_slots content).room ≡ (view pass.old).draws.slots }
+        requires empty { ((view pass.old).hand.free ≡ Some []) × ((S.free_slots content).slots ≡ []) }
         ensures own { IsPassOf self.now pass.new × (in_hand pass.new ≡ rest (in_hand pass.old)) }
         ensures given { view pass.new ≡ record (view pass.old) { hand = record (view pass.old).hand { free = None }; work = record (view pass.old).work { fulls = risen (view pass.old).work.fulls; due = E.due } } }
     {

@@ -73,7 +73,8 @@ pub(crate) fn take_slot<S: Content, E: Wants>(
     requires own { IsLiveOf guard.now pass.old }
     requires share { (view pass.old).shares.op ≡ Held }
     requires hand { in_hand pass.old ≡ (1, None) ∷ rest (in_hand pass.old) }
-    requires free { (slot : ℕ) × ((view pass.old).hand.free ≡ Some (slot ∷ S.free_slots content)) }
+    requires roomy { (S.free_slots content).room ≡ (view pass.old).draws.slots }
+    requires free { (slot : ℕ) × ((view pass.old).hand.free ≡ Some (slot ∷ (S.free_slots content).slots)) }
     requires calm { ((view pass.old).hand.taken ≡ None) × ((view pass.old).hand.loose ≡ None) }
     requires wanted { (word : Word) × IsWanted (knows (view pass.old) (lent_room scratch.now)) bits word }
     ensures own { IsPassOf guard.now pass.new }
@@ -94,7 +95,8 @@ pub(crate) fn give_empty<S: Content, E: Refused>(
     requires same { E.due ≡ Some (whole_of (shape_in (view pass.old).draws) (due_at (known_of (view pass.old) own_none).view job.now)) }
     requires own { IsLiveOf guard.now pass.old }
     requires hand { in_hand pass.old ≡ (1, None) ∷ rest (in_hand pass.old) }
-    requires empty { ((view pass.old).hand.free ≡ Some []) × (S.free_slots content ≡ []) }
+    requires roomy { (S.free_slots content).room ≡ (view pass.old).draws.slots }
+    requires empty { ((view pass.old).hand.free ≡ Some []) × ((S.free_slots content).slots ≡ []) }
     ensures own { IsPassOf guard.now pass.new × (in_hand pass.new ≡ rest (in_hand pass.old)) }
     ensures given { view pass.new ≡ record (view pass.old) { hand = record (view pass.old).hand { free = None }; work = record (view pass.old).work { fulls = risen (view pass.old).work.fulls; due = Some (whole_of (shape_in (view pass.old).draws) (due_at (known_of (view pass.old) own_none).view job.now)) } } }
 {

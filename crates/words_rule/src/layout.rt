@@ -1,10 +1,12 @@
 //! Where each word stands.
 ghost use Rattle.std.specs.Prelude.{◌≡◌, ◌+◌};
 ghost use Rattle.words_rule.specs.Layout.{count_at, head_at, next_at, node_at, order_at, places, turn_at};
+ghost use Rattle.words_rule.specs.Exchanges.{item, position};
 ghost use Rattle.words_rule.specs.Hands.{place_of};
 ghost use Rattle.words_rule.specs.Shapes.{shape_by};
 
 use edge_bits::FIRST_ELEMENT;
+use function_laws::Order;
 
 /// The number of calls so far.
 pub(crate) const JOURNAL: usize = 0;
@@ -60,6 +62,30 @@ impl Sizes {
             self.vars as usize + (var - FIRST_ELEMENT) as usize
         };
         TURNS + 1 + places * 2 + place
+    }
+
+    /// The position of a level of an order.
+    pub(crate) fn position(&self, order: Order, level: u32) -> usize
+        ensures { result ≡ order_at (shape_by self.now) (position (shape_by self.now) order level) }
+    {
+        let places = self.vars as usize + self.elements as usize;
+        let before = match order {
+            Order::Variables => 0,
+            Order::Elements => self.vars as usize,
+        };
+        TURNS + 1 + places + before + level as usize
+    }
+
+    /// The level word of a variable or an element, by its own number.
+    pub(crate) fn level_of(&self, order: Order, number: u32) -> usize
+        ensures { result ≡ order_at (shape_by self.now) (places (shape_by self.now) + item (shape_by self.now) order number) }
+    {
+        let places = self.vars as usize + self.elements as usize;
+        let before = match order {
+            Order::Variables => 0,
+            Order::Elements => self.vars as usize,
+        };
+        TURNS + 1 + places * 2 + before + number as usize
     }
 
     /// The node word of a slot.

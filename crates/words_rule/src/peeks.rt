@@ -1,11 +1,11 @@
-//! Peeks at words, which tell nothing.
-ghost use Rattle.std.specs.Prelude.{◌<◌};
+//! Peeks at words, which tell nothing; the sizes that a seat carries.
+ghost use Rattle.std.specs.Prelude.{◌≡◌, ◌<◌};
 ghost use Rattle.words_rule.specs.Layout.{heads, levels};
-ghost use Rattle.words_rule.specs.Shapes.{shape_in};
+ghost use Rattle.words_rule.specs.Shapes.{shape_by, shape_in};
 ghost use Rattle.words_rule.specs.Passes.{view, IsPassOf};
 
 use crate::content::Content;
-use crate::layout::{FREE, turn};
+use crate::layout::{FREE, Sizes, turn};
 use crate::seat::{Guard, Pass};
 
 impl<S: Content> Guard<S> {
@@ -48,5 +48,15 @@ impl<S: Content> Guard<S> {
         requires within { slot < (view pass.now).draws.slots }
     {
         self.table.shared.peek(pass.sizes.node(slot))
+    }
+}
+
+impl<S> Pass<S> {
+    /// How many variables, elements, slots and heads the table has.
+    pub fn sizes(&self) -> Sizes
+        ensures shape { shape_by result ≡ shape_in (view self.now).draws }
+        ensures heads { result.heads ≡ heads (shape_in (view self.now).draws) }
+    {
+        self.sizes
     }
 }

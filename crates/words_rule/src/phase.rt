@@ -100,7 +100,7 @@ impl<S: Content> Guard<S> {
         requires own { IsLiveOf self.now pass.old }
         requires claim { (view pass.old).shares.order ≡ Claimed }
         ensures own { IsPassOf self.now pass.new × (in_hand pass.new ≡ in_hand pass.old) }
-        ensures holds { ops_of result ≡ 0 → (variables : List ℕ) × (elements : List ℕ) × (view pass.new ≡ record (view pass.old) { shares = with_order (view pass.old).shares Holding result; known = record (view pass.old).known { variable_order = variables; element_order = elements; told_variables = variables; told_elements = elements; words = []; seen = [] } }) }
+        ensures holds { ops_of result ≡ 0 → (variables : List ℕ) × (elements : List ℕ) × (view pass.new ≡ record (view pass.old) { shares = with_order (view pass.old).shares Holding result; known = record (view pass.old).known { variable_order = variables; element_order = elements; told_variables = variables; told_elements = elements; words = []; seen = []; ages = [] } }) }
         ensures missed { ops_of result ≢ 0 → view pass.new ≡ view pass.old }
     {
         self.table.shared.load::<LookOrder>(&mut pass.seat, PHASE)

@@ -11,13 +11,14 @@ pub trait Shelf: Content + Drop {
 
     /// Whether a slot is on the free list.
     fn has_slot(&self) -> bool
-        ensures some { result ≡ true → (slot : ℕ) × (list : List ℕ) × (Self.free_slots self.now ≡ slot ∷ list) }
-        ensures none { result ≡ false → Self.free_slots self.now ≡ [] };
+        ensures some { result ≡ true → (slot : ℕ) × (list : List ℕ) × ((Self.free_slots self.now).slots ≡ slot ∷ list) }
+        ensures none { result ≡ false → (Self.free_slots self.now).slots ≡ [] };
 
     /// Takes the first slot off the free list.
     fn next_slot(&mut self) -> u32
-        requires { (slot : ℕ) × (list : List ℕ) × (Self.free_slots self.old ≡ slot ∷ list) }
-        ensures { Self.free_slots self.old ≡ result ∷ Self.free_slots self.new };
+        requires { (slot : ℕ) × (list : List ℕ) × ((Self.free_slots self.old).slots ≡ slot ∷ list) }
+        ensures first { (Self.free_slots self.old).slots ≡ result ∷ (Self.free_slots self.new).slots }
+        ensures room { (Self.free_slots self.new).room ≡ (Self.free_slots self.old).room };
 
     /// The answer that the computed table has under the whole key. None where its place is empty or has another key.
     fn get(&self, key: &Key) -> Option<Edge>

@@ -1,4 +1,4 @@
-use Rattle.std.proofs.Common.{◌≡◌, ◌<◌, Some, sym, subst}
+use Rattle.std.proofs.Common.{◌<◌, sym, subst}
 use Rattle.words_rule.specs.Known.{Own, known_of, with_made}
 use Rattle.words_rule.specs.Loads.{StoredNode}
 use Rattle.words_rule.specs.Passes.{view}

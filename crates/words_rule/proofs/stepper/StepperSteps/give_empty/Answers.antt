@@ -5,9 +5,9 @@ use Rattle.words_rule.specs.Known.{own_none, own_of}
 use Rattle.words_rule.specs.Passes.{view}
 use Rattle.words_rule.specs.Kept.{whole_of}
 use Rattle.words_rule.specs.Shapes.{shape_in}
-use Rattle.words_rule.specs.Known.{denoted_in, known_of}
+use Rattle.words_rule.specs.Known.{denoted_in}
 use Rattle.std.proofs.Common.{Some}
-use Rattle.words_rule.specs.Steppers.{IsOperating, due_at, knows}
+use Rattle.words_rule.specs.Steppers.{IsOperating, knows}
 use Rattle.words_rule.specs.declared.view.View.{View}
 use Rattle.function_laws.specs.Kinds.{Denoted}
 use Rattle.words_rule.proofs.FreeClauses.{is_due}
@@ -33,3 +33,6 @@ returns-clause-due g c =
     (ap (λ (x : View). (knows x (lent_room s.scratch)).view.due) c.give_empty.ensures.given
     ∙ ap (λ (f : Denoted). Some (denoted_in v.draws.vars (whole_of (shape_in v.draws) f))) (due_own v own_none (own_of v (lent_room s.scratch)) job ∙ due_same w job c.requires.may)
     ∙ ap Some (due_decoded v (own_of v (lent_room s.scratch)) job c.requires.may))
+
+pub give_empty-requires-clause-roomy : goal.give_empty-requires-clause-roomy
+give_empty-requires-clause-roomy g c = c.requires.own.roomy c.in-Some.content (sym c.take.ensures.value ∙ c.in-Some.is)

@@ -1,7 +1,7 @@
 use Rattle.node_slots.specs.Stores.{lent_room}
-use Rattle.std.proofs.Common.{◌∙◌, ap, sym, subst}
+use Rattle.std.proofs.Common.{sym, subst}
 use Rattle.step_store.specs.Knowing.{Learns, Meets}
-use Rattle.words_rule.specs.Known.{known_of, own_of}
+use Rattle.words_rule.specs.Known.{known_of}
 use Rattle.words_rule.specs.Passes.{view}
 use Rattle.words_rule.specs.Steppers.{knows}
 use Rattle.words_rule.proofs.Steppers.{node_loaded_on, own_same}

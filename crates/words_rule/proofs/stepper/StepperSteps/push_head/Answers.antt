@@ -4,7 +4,6 @@ use mathlib.Core.Logic.{dite}
 use native.Mathlib.Decide.{ℕ_discrete}
 use Rattle.words_rule.specs.Passes.{view}
 use Rattle.words_rule.specs.Steppers.{knows}
-use Rattle.words_rule.proofs.HandClauses.{some_back}
 use Rattle.words_rule.proofs.Steppers.{head_pushed_on, noted_there, link_back, same_view_on}
 use Rattle.words_rule.proofs.stepper.StepperSteps.push_head.Goals as goal
 

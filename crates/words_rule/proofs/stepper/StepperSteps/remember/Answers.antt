@@ -1,5 +1,4 @@
 use Rattle.node_slots.specs.Stores.{lent_room}
-use Rattle.std.proofs.Common.{◌<◌, ap, refl, sym, ◌∙◌, subst}
 use Rattle.computed_cache.specs.Entries.{place_of, places}
 use Rattle.words_rule.specs.Passes.{view}
 use Rattle.words_rule.specs.Steppers.{knows}

@@ -1,5 +1,5 @@
 use Rattle.node_slots.specs.Stores.{lent_room}
-use Rattle.std.proofs.Common.{⊎_elim, ap, inl, inr}
+use Rattle.std.proofs.Common.{ap}
 use Rattle.words_rule.specs.Passes.{view}
 use Rattle.words_rule.specs.Steppers.{knows}
 use Rattle.words_rule.proofs.Steppers.{link_stored_on, owns_back, owned_within}

@@ -1,10 +1,5 @@
 use Rattle.node_slots.specs.Stores.{lent_room}
-use Rattle.std.proofs.Common.{◌≡◌, ap, sym, subst}
-use Rattle.step_store.specs.Knowing.{Grows, HasWord}
-use Rattle.words_rule.specs.Known.{known_of, own_of, with_made}
-use Rattle.words_rule.specs.Loads.{StoredNode}
 use Rattle.words_rule.specs.Passes.{view}
-use Rattle.words_rule.specs.Steppers.{knows}
 use Rattle.words_rule.proofs.Steppers.{node_stored_on, stored_same}
 use Rattle.words_rule.proofs.stepper.StepperSteps.store_node.Goals as goal
 

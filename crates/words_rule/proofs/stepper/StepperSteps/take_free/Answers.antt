@@ -5,10 +5,10 @@ use Rattle.words_rule.proofs.Steppers.{list_taken_on, not_some, same_on}
 use Rattle.words_rule.proofs.stepper.StepperSteps.take_free.Goals as goal
 
 pub returns-in-Some-clause-own : goal.returns-in-Some-clause-own
-returns-in-Some-clause-own g c = let s = c.args.self.now in let e = c.in-Some.ensures.taken in list_taken_on g.S.Content.free_slots g.S.Content.memo s.guard.now s.pass c.take_free.new.pass s.free s.memo (lent_room s.scratch) c.requires.own c.take_free.ensures.own (not_some s.free (sym c.is_some.ensures ∙ c.if-is_some.false)) c.in-Some.content e.0 e.1
+returns-in-Some-clause-own g c = let s = c.args.self.now in let e = c.in-Some.ensures.taken in list_taken_on g.S.Content.free_slots g.S.Content.memo s.guard.now s.pass c.take_free.new.pass s.free s.memo (lent_room s.scratch) c.requires.own c.take_free.ensures.own (not_some s.free (sym c.is_some.ensures ∙ c.if-is_some.false)) c.in-Some.content e.0 e.1 e.2
 
 pub returns-in-Some-clause-taken : goal.returns-in-Some-clause-taken
-returns-in-Some-clause-taken g c = λ is. let s = c.args.self.now in (g.S.Content.free_slots c.in-Some.content, ap (λ v. knows v (lent_room s.scratch)) c.in-Some.ensures.taken.0)
+returns-in-Some-clause-taken g c = λ is. let s = c.args.self.now in ((g.S.Content.free_slots c.in-Some.content).slots, ap (λ v. knows v (lent_room s.scratch)) c.in-Some.ensures.taken.0)
 
 pub returns-in-None-clause-own : goal.returns-in-None-clause-own
 returns-in-None-clause-own g c = let s = c.args.self.now in same_on g.S.Content.free_slots g.S.Content.memo s.guard.now s.pass c.take_free.new.pass s.free s.memo (lent_room s.scratch) c.requires.own c.take_free.ensures.own c.in-None.ensures.missed

@@ -1,6 +1,5 @@
 use Rattle.node_slots.specs.Stores.{lent_room}
-use Rattle.std.proofs.Common.{◌∷◌, None, ap, sym, ◌∙◌, subst}
-use Rattle.std.specs.Prelude as std
+use Rattle.std.proofs.Common.{ap, sym, ◌∙◌, subst}
 use Rattle.step_store.specs.Knowing.{Learns}
 use Rattle.atomic_table.specs.Table.{turned}
 use Rattle.words_rule.specs.Loads.{LearntMemo}
