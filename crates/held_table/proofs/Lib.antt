@@ -5,3 +5,4 @@ pub mod Links
 pub mod Counts
 pub mod Hands
 pub mod Frees
+pub mod Openings

@@ -2,6 +2,8 @@
 #![tactic(auto)]
 
 mod holds;
+mod opening;
+mod others;
 pub mod table;
 
 pub use table::HeldTable;
