@@ -16,21 +16,7 @@ use edge_bits::{FIRST_ELEMENT, Memory, scatter, unpack};
 use node_slots::{HeldStore, PlainStore};
 use node_store::{Order, Whole};
 use std::alloc::Global;
-
-/// The least number of heads.
-const LEAST_HEADS: u32 = 64;
-
-/// How many heads there are for so many slots: the least power of two that is at least half of them, and at least 64.
-fn head_count(limit: u32) -> u32
-    requires { limit < 2 ^ 23 }
-    ensures { IsHeadCount limit result }
-{
-    let mut heads = LEAST_HEADS;
-    while 2 * heads < limit {
-        heads *= 2;
-    }
-    heads
-}
+use step_store::head_count;
 
 /// The words of so many slots: 0 for each of which there is none.
 fn copy_words(alloc: Global, words: &[u64], limit: u32) -> Result<Vec<u64>, Memory>

@@ -25,7 +25,7 @@ const REMEMBERED: u32 = 65_536;
 const LEAST_HEADS: u32 = 64;
 
 /// How many heads there are for so many slots: the least power of two that is at least half of them, and at least 64.
-fn head_count(limit: u32) -> u32
+pub fn head_count(limit: u32) -> u32
     requires { limit ≤ MOST_SLOTS }
     ensures { IsHeadCount limit result }
 {

@@ -16,6 +16,7 @@ pub mod table;
 mod walking;
 pub mod walks;
 
+pub use beginning::head_count;
 pub use growing::{Growing, Home};
 pub use job::Job;
 pub use steps::Steps;

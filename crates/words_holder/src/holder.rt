@@ -14,6 +14,7 @@ use std::marker::Brand;
 use std::sync::Wait;
 use step_store::Home;
 use words_rule::seat::{FullHold, Guard, Pass};
+use words_rule::stepper::found_link;
 use words_rule::view::{Draws, Held, SlotGeneration};
 
 /// The order word that is still to be stored.
@@ -43,19 +44,6 @@ pub struct Holder<'a, S: HolderShelf> {
     named: bool,
     renewed: Option<u32>,
     due: Option<Due>,
-}
-
-/// A link that was peeked at, which may be any.
-fn peeked(link: u64) -> u32 {
-    u32::try_from(link).unwrap_or(0)
-}
-
-/// A link that was found where this one was looked for: another where it is too great for one.
-fn found_link(found: u64, link: u32) -> u32
-    ensures same { result ≡ link → found ≡ link }
-    ensures other { found ≡ link → result ≡ link }
-{
-    u32::try_from(found).unwrap_or(!link)
 }
 
 impl<'a, S: HolderShelf> Holds for Holder<'a, S> {
@@ -98,7 +86,7 @@ impl<'a, S: HolderShelf> Holds for Holder<'a, S> {
     }
 
     fn peek_head(&self, head: u32) -> u32 {
-        peeked(self.guard.peek_head(&self.pass, head))
+        u32::try_from(self.guard.peek_head(&self.pass, head)).unwrap_or(0)
     }
 
     fn take_turn(&mut self, level: u32) -> bool {

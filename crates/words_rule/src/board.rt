@@ -5,12 +5,9 @@ ghost use Rattle.words_rule.specs.Views.{holding, letting_go};
 ghost use Rattle.words_rule.specs.Passes.{me, view, in_hand, IsLiveOf, IsPassOf};
 
 use crate::content::Content;
-use crate::layout::BOARD;
+use crate::layout::{BOARD, BOARD_SLOT};
 use crate::plays::{GiveBoard, TakeBoard};
 use crate::seat::{Guard, Pass};
-
-/// The slot in which the board lies.
-const BOARD_SLOT: usize = 0;
 
 impl<S: Content> Guard<S> {
     /// Takes the board, if it is at home.

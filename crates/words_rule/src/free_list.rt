@@ -9,13 +9,10 @@ ghost use Rattle.words_rule.specs.Plays.{HasTaken};
 ghost use Rattle.words_rule.specs.Passes.{me, view, in_hand, IsLiveOf, IsPassOf};
 
 use crate::content::Content;
-use crate::layout::FREE;
+use crate::layout::{FREE, FREE_SLOT};
 use crate::plays::{GiveEmpty, TakeFree, TakeSlot};
 use crate::seat::{Guard, Pass};
 use crate::told::{Refused, Wants};
-
-/// The slot in which the free list lies.
-const FREE_SLOT: usize = 1;
 
 impl<S: Content> Guard<S> {
     /// Takes the free list, if it is at home.

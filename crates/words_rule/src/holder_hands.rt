@@ -9,13 +9,8 @@ ghost use Rattle.words_rule.specs.Passes.{me, view, in_hand, IsLiveOf, IsPassOf}
 
 use crate::content::Content;
 use crate::holder_plays::{ClaimFree, ClaimMemo, ReturnFree, ReturnMemo};
-use crate::layout::{FREE, MEMO};
+use crate::layout::{FREE, FREE_SLOT, MEMO, MEMO_SLOT};
 use crate::seat::{Guard, Pass};
-
-/// The slot in which the free list lies, and that of the computed table.
-const FREE_SLOT: usize = 1;
-
-const MEMO_SLOT: usize = 2;
 
 impl<S: Content> Guard<S> {
     /// Takes the free list, if it is at home, with all slots that are free.

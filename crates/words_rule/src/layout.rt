@@ -26,6 +26,15 @@ pub(crate) const MEMO: usize = 5;
 /// The turn of the first level.
 const TURNS: usize = 6;
 
+/// The slot in which the board lies.
+pub(crate) const BOARD_SLOT: usize = 0;
+
+/// The slot in which the free list lies.
+pub(crate) const FREE_SLOT: usize = 1;
+
+/// The slot in which the computed table lies.
+pub(crate) const MEMO_SLOT: usize = 2;
+
 /// How many variables, elements, slots and heads a table has.
 #[derive(Clone, Copy, Drop)]
 pub struct Sizes {

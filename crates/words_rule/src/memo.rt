@@ -8,13 +8,10 @@ ghost use Rattle.words_rule.specs.Remembered.{AreAnswers};
 ghost use Rattle.words_rule.specs.Passes.{me, view, in_hand, IsLiveOf, IsPassOf};
 
 use crate::content::Content;
-use crate::layout::MEMO;
+use crate::layout::{MEMO, MEMO_SLOT};
 use crate::plays::{GiveMemo, TakeMemo};
 use crate::seat::{Guard, Pass};
 use crate::told::Beside;
-
-/// The slot in which the computed table lies.
-const MEMO_SLOT: usize = 2;
 
 impl<S> Pass<S> {
     /// The slot that was taken last goes behind the others that are in hand.

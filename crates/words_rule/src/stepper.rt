@@ -43,7 +43,7 @@ fn peeked(link: u64) -> u32 {
 }
 
 /// A link that was found where this one was looked for: another where it is too great for one.
-fn found_link(found: u64, link: u32) -> u32
+pub fn found_link(found: u64, link: u32) -> u32
     ensures same { result ≡ link → found ≡ link }
     ensures other { found ≡ link → result ≡ link }
 {
