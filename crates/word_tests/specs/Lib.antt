@@ -1,3 +1,2 @@
-pub mod Lots
 pub mod Seats
 pub mod Tidy

@@ -9,11 +9,11 @@ use Rattle.words_rule.specs.declared.stepper.Stepper.{Stepper}
 use Rattle.words_rule.specs.Passes.{in_hand, view}
 use Rattle.words_rule.specs.Steppers.{IsStepper, knows}
 use Rattle.words_rule.specs.Tokens.{IsFreeOf}
-use Rattle.word_tests.specs.declared.lots.Lot.{Lot}
-use Rattle.word_tests.specs.Lots.{free_of, memo_of}
+use Rattle.table_shelves.specs.declared.shelf.TableShelf.{TableShelf}
+use Rattle.table_shelves.specs.Shelves.{free_of, memo_of}
 
 -- it may take a share, and has nothing in hand
-pub record IsReady (g : Guard Lot) (p : Pass Lot) : Type 0 where
+pub record IsReady (g : Guard TableShelf) (p : Pass TableShelf) : Type 0 where
   pub free : IsFreeOf g p
   pub levels : (view p).hand.levels ≡ []
   pub list : (view p).hand.free ≡ std.None
@@ -23,6 +23,6 @@ pub record IsReady (g : Guard Lot) (p : Pass Lot) : Type 0 where
   pub fulls : (view p).work.fulls ≡ 0
 
 -- it has a share, and nothing in hand
-pub record IsIdleSeat (s : Stepper Lot) : Type 0 where
+pub record IsIdleSeat (s : Stepper TableShelf) : Type 0 where
   pub own : IsStepper free_of memo_of s
   pub idle : (knows (view s.pass) (lent_room s.scratch)).hand ≡ idle

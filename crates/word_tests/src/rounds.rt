@@ -8,7 +8,6 @@ ghost use Rattle.words_rule.specs.Closings.{IsClosingOf, known};
 ghost use Rattle.words_rule.specs.Endings.{AreBack};
 ghost use Rattle.word_tests.specs.Tidy.{IsTidy};
 
-use crate::lots::{Lot, opened};
 use edge_bits::Memory;
 use std::alloc::Global;
 use std::marker::Brand;
@@ -16,6 +15,7 @@ use std::process::Abort;
 use std::sync::Wait;
 use std::test::Fail;
 use std::thread::{Threads, join};
+use table_shelves::{TableShelf, open};
 use words_rule::closing::Closing;
 use words_rule::seat::{Guard, Pass};
 use words_rule::view::Opening;
@@ -24,7 +24,11 @@ use words_rule::view::Opening;
 const SLOTS: u32 = 100;
 
 /// One call under an operation share, and its place.
-fn call<R: Wait>(rt: &R, guard: &Guard<Lot>, pass: Pass<Lot>) -> (Pass<Lot>, u64)
+fn call<R: Wait>(
+    rt: &R,
+    guard: &Guard<TableShelf>,
+    pass: Pass<TableShelf>,
+) -> (Pass<TableShelf>, u64)
     requires tidy { IsTidy guard.now pass }
     requires room { length (view pass).draws.entries < 2 ^ 48 }
     ensures tidy { IsTidy guard.now result.0 }
@@ -37,7 +41,7 @@ fn call<R: Wait>(rt: &R, guard: &Guard<Lot>, pass: Pass<Lot>) -> (Pass<Lot>, u64
 }
 
 /// How often all slots are counted, under the order hold.
-fn count_all(guard: &Guard<Lot>, pass: &mut Pass<Lot>) -> u64
+fn count_all(guard: &Guard<TableShelf>, pass: &mut Pass<TableShelf>) -> u64
     requires own { IsLiveOf guard.now pass.old }
     requires slots { (view pass.old).draws.slots ≡ SLOTS }
     requires hold { (view pass.old).shares.order ≡ Holding }
@@ -52,7 +56,11 @@ fn count_all(guard: &Guard<Lot>, pass: &mut Pass<Lot>) -> u64
 }
 
 /// Takes the order, and counts all slots.
-fn look_through<R: Wait>(rt: &R, guard: &Guard<Lot>, pass: Pass<Lot>) -> (Pass<Lot>, u64)
+fn look_through<R: Wait>(
+    rt: &R,
+    guard: &Guard<TableShelf>,
+    pass: Pass<TableShelf>,
+) -> (Pass<TableShelf>, u64)
     requires tidy { IsTidy guard.now pass }
     requires slots { (view pass).draws.slots ≡ SLOTS }
     ensures tidy { IsTidy guard.now result.0 }
@@ -64,7 +72,12 @@ fn look_through<R: Wait>(rt: &R, guard: &Guard<Lot>, pass: Pass<Lot>) -> (Pass<L
 }
 
 /// So many calls, with the order taken after each. How often the place was above the one before, and how often a slot was counted.
-fn rounds<R: Wait>(rt: &R, guard: &Guard<Lot>, pass: Pass<Lot>, times: u32) -> (Pass<Lot>, u32, u64)
+fn rounds<R: Wait>(
+    rt: &R,
+    guard: &Guard<TableShelf>,
+    pass: Pass<TableShelf>,
+    times: u32,
+) -> (Pass<TableShelf>, u32, u64)
     requires tidy { IsTidy guard.now pass }
     requires new { (view pass).draws.entries ≡ [] }
     requires slots { (view pass).draws.slots ≡ SLOTS }
@@ -98,7 +111,7 @@ struct Told {
 }
 
 /// Closes the table, and answers its word of shares and holds.
-fn finish(guard: Guard<Lot>, closing: Closing<Lot>) -> u64
+fn finish(guard: Guard<TableShelf>, closing: Closing<TableShelf>) -> u64
     requires own { IsClosingOf guard closing }
     requires back { AreBack (known closing).given (known closing).gone }
 {
@@ -121,17 +134,17 @@ fn two<R: Threads + Wait + Sync>(rt: &R, alloc: Global, times: u32) -> Result<To
         slots: SLOTS,
         sessions: 2,
     };
-    let (guard, mut closing) = opened(alloc, &key)?;
+    let (guard, mut closing) = open(alloc, &key)?;
     let first = guard.split(&mut closing);
     let second = guard.split(&mut closing);
     let shared = &guard;
     let ((first, low, few), (second, high, many)) = join(
         rt,
-        move || -> (Pass<Lot>, u32, u64)
+        move || -> (Pass<TableShelf>, u32, u64)
             requires { IsTidy shared.now first × ((view first).draws.entries ≡ []) × ((view first).draws.slots ≡ SLOTS) × ((view first).draws.session ≡ 0) }
             ensures { IsTidy shared.entry.now result.0 × ((view result.0).draws.session ≡ 0) }
         { rounds(rt, shared, first, times) },
-        move || -> (Pass<Lot>, u32, u64)
+        move || -> (Pass<TableShelf>, u32, u64)
             requires { IsTidy shared.now second × ((view second).draws.entries ≡ []) × ((view second).draws.slots ≡ SLOTS) × ((view second).draws.session ≡ 1) }
             ensures { IsTidy shared.entry.now result.0 × ((view result.0).draws.session ≡ 1) }
         { rounds(rt, shared, second, times) },

@@ -5,7 +5,6 @@ ghost use Rattle.words_rule.specs.Passes.{view};
 ghost use Rattle.words_rule.specs.Walkers.{besides_of};
 ghost use Rattle.word_tests.specs.Seats.{IsIdleSeat, IsReady};
 
-use crate::lots::{Lot, opened};
 use edge_bits::{Memory, VALUE_END};
 use node_store::{Grow, Opened, Stop};
 use std::alloc::Global;
@@ -15,6 +14,7 @@ use std::sync::Wait;
 use std::test::Fail;
 use std::thread::{Threads, join};
 use step_store::{Growing, Home};
+use table_shelves::{TableShelf, open};
 use words_rule::seat::{Guard, Pass};
 use words_rule::stepper::Stepper;
 use words_rule::view::{Besides, Opening};
@@ -44,15 +44,15 @@ fn ask_once_more<G: Grow>(rt: &impl Abort, store: &mut G) {
 /// Asks at a seat for 200 leaves, and for one more if it is the last to ask.
 fn ask_at_home<'a, R: Wait + Abort, E: Home<Besides>>(
     rt: &R,
-    stepper: Stepper<'a, Lot>,
+    stepper: Stepper<'a, TableShelf>,
     is_last: bool,
-) -> Stepper<'a, Lot>
+) -> Stepper<'a, TableShelf>
     requires own { IsIdleSeat stepper }
     requires home { (stepper.pass.seat.table_id.views_name ≡ E.number) × (besides_of stepper.pass.seat.table_id (view stepper.pass) ≡ E.rest) }
     ensures own { IsIdleSeat result }
     ensures home { besides_of result.pass.seat.table_id (view result.pass) ≡ E.rest }
 {
-    let mut store: Growing<'_, R, Stepper<'_, Lot>, E> = Growing::new(rt, stepper);
+    let mut store: Growing<'_, R, Stepper<'_, TableShelf>, E> = Growing::new(rt, stepper);
     if is_last {
         ask_once_more(rt, &mut store);
     } else {
@@ -65,10 +65,10 @@ fn ask_at_home<'a, R: Wait + Abort, E: Home<Besides>>(
 fn ask_under_share<R: Wait + Abort>(
     rt: &R,
     alloc: Global,
-    guard: &Guard<Lot>,
-    pass: Pass<Lot>,
+    guard: &Guard<TableShelf>,
+    pass: Pass<TableShelf>,
     is_last: bool,
-) -> Pass<Lot>
+) -> Pass<TableShelf>
     requires { IsReady guard.now pass }
 {
     let share = guard.op_wait(rt, pass);
@@ -79,7 +79,17 @@ fn ask_under_share<R: Wait + Abort>(
 }
 
 /// A table of three sessions, with the room for 200 leaves.
-fn three(alloc: Global) -> Result<(Guard<Lot>, Pass<Lot>, Pass<Lot>, Pass<Lot>), Memory>
+fn three(
+    alloc: Global,
+) -> Result<
+    (
+        Guard<TableShelf>,
+        Pass<TableShelf>,
+        Pass<TableShelf>,
+        Pass<TableShelf>,
+    ),
+    Memory,
+>
     ensures { IfOk result (λ r. IsReady r.0 r.1 × IsReady r.0 r.2 × IsReady r.0 r.3) }
 {
     let key = Opening {
@@ -88,7 +98,7 @@ fn three(alloc: Global) -> Result<(Guard<Lot>, Pass<Lot>, Pass<Lot>, Pass<Lot>),
         slots: 205,
         sessions: 3,
     };
-    let (guard, mut closing) = opened(alloc, &key)?;
+    let (guard, mut closing) = open(alloc, &key)?;
     let mine = guard.split(&mut closing);
     let first = guard.split(&mut closing);
     let second = guard.split(&mut closing);

@@ -3,18 +3,18 @@
 ghost use Rattle.std.specs.Prelude.{◌≡◌, ◌≤◌, [], IfOk};
 ghost use Rattle.word_tests.specs.Tidy.{IsTidy};
 
-use crate::lots::{Lot, opened};
 use edge_bits::Memory;
 use std::alloc::Global;
 use std::process::Abort;
 use std::sync::Wait;
 use std::test::Fail;
 use std::thread::{Threads, join};
+use table_shelves::{TableShelf, open};
 use words_rule::seat::{Guard, Pass};
 use words_rule::view::Opening;
 
 /// Whether there was an operation share for a session. It is given back.
-fn operates(guard: &Guard<Lot>, pass: Pass<Lot>) -> (Pass<Lot>, bool)
+fn operates(guard: &Guard<TableShelf>, pass: Pass<TableShelf>) -> (Pass<TableShelf>, bool)
     requires { IsTidy guard.now pass }
     ensures { IsTidy guard.now result.0 }
 {
@@ -25,7 +25,7 @@ fn operates(guard: &Guard<Lot>, pass: Pass<Lot>) -> (Pass<Lot>, bool)
 }
 
 /// Whether there was the order for a session. It is given back.
-fn orders(guard: &Guard<Lot>, pass: Pass<Lot>) -> (Pass<Lot>, bool)
+fn orders(guard: &Guard<TableShelf>, pass: Pass<TableShelf>) -> (Pass<TableShelf>, bool)
     requires { IsTidy guard.now pass }
     ensures { IsTidy guard.now result.0 }
 {
@@ -36,7 +36,7 @@ fn orders(guard: &Guard<Lot>, pass: Pass<Lot>) -> (Pass<Lot>, bool)
 }
 
 /// Whether there was a walk share for a session. It is given back.
-fn walks(guard: &Guard<Lot>, pass: Pass<Lot>) -> (Pass<Lot>, bool)
+fn walks(guard: &Guard<TableShelf>, pass: Pass<TableShelf>) -> (Pass<TableShelf>, bool)
     requires { IsTidy guard.now pass }
     ensures { IsTidy guard.now result.0 }
 {
@@ -49,8 +49,8 @@ fn walks(guard: &Guard<Lot>, pass: Pass<Lot>) -> (Pass<Lot>, bool)
 /// What two sessions were given beside a third one's share or hold.
 #[derive(Drop)]
 struct Beside {
-    first: Pass<Lot>,
-    second: Pass<Lot>,
+    first: Pass<TableShelf>,
+    second: Pass<TableShelf>,
     operation: bool,
     order: bool,
     walk: bool,
@@ -59,9 +59,9 @@ struct Beside {
 /// Two sessions in a thread each: the first asks for an operation share and then for the order, the second for a walk share.
 fn ask_both<R: Threads + Sync>(
     rt: &R,
-    guard: &Guard<Lot>,
-    first: Pass<Lot>,
-    second: Pass<Lot>,
+    guard: &Guard<TableShelf>,
+    first: Pass<TableShelf>,
+    second: Pass<TableShelf>,
 ) -> Beside
     requires first { IsTidy guard.now first }
     requires second { IsTidy guard.now second }
@@ -69,7 +69,7 @@ fn ask_both<R: Threads + Sync>(
 {
     let ((first, operation, order), (second, walk)) = join(
         rt,
-        move || -> (Pass<Lot>, bool, bool)
+        move || -> (Pass<TableShelf>, bool, bool)
             requires { IsTidy guard.now first }
             ensures { IsTidy guard.entry.now result.0 }
         {
@@ -77,7 +77,7 @@ fn ask_both<R: Threads + Sync>(
             let (first, order) = orders(guard, first);
             (first, operation, order)
         },
-        move || -> (Pass<Lot>, bool)
+        move || -> (Pass<TableShelf>, bool)
             requires { IsTidy guard.now second }
             ensures { IsTidy guard.entry.now result.0 }
         { walks(guard, second) },
@@ -94,11 +94,11 @@ fn ask_both<R: Threads + Sync>(
 /// Beside an operation share there are further ones and walk shares, and no order.
 fn beside_a_share<R: Abort + Threads + Wait + Sync>(
     rt: &R,
-    guard: &Guard<Lot>,
-    mine: Pass<Lot>,
-    first: Pass<Lot>,
-    second: Pass<Lot>,
-) -> (Pass<Lot>, Beside)
+    guard: &Guard<TableShelf>,
+    mine: Pass<TableShelf>,
+    first: Pass<TableShelf>,
+    second: Pass<TableShelf>,
+) -> (Pass<TableShelf>, Beside)
     requires mine { IsTidy guard.now mine }
     requires first { IsTidy guard.now first }
     requires second { IsTidy guard.now second }
@@ -113,11 +113,11 @@ fn beside_a_share<R: Abort + Threads + Wait + Sync>(
 /// Beside the order there are walk shares, and no operation share and no second order; beside the full hold there is nothing.
 fn beside_the_holds<R: Abort + Threads + Wait + Sync>(
     rt: &R,
-    guard: &Guard<Lot>,
-    mine: Pass<Lot>,
-    first: Pass<Lot>,
-    second: Pass<Lot>,
-) -> (Pass<Lot>, Beside)
+    guard: &Guard<TableShelf>,
+    mine: Pass<TableShelf>,
+    first: Pass<TableShelf>,
+    second: Pass<TableShelf>,
+) -> (Pass<TableShelf>, Beside)
     requires mine { IsTidy guard.now mine }
     requires first { IsTidy guard.now first }
     requires second { IsTidy guard.now second }
@@ -134,7 +134,17 @@ fn beside_the_holds<R: Abort + Threads + Wait + Sync>(
 }
 
 /// A table of three sessions.
-fn three(alloc: Global) -> Result<(Guard<Lot>, Pass<Lot>, Pass<Lot>, Pass<Lot>), Memory>
+fn three(
+    alloc: Global,
+) -> Result<
+    (
+        Guard<TableShelf>,
+        Pass<TableShelf>,
+        Pass<TableShelf>,
+        Pass<TableShelf>,
+    ),
+    Memory,
+>
     ensures { IfOk result (λ r. IsTidy r.0 r.1 × IsTidy r.0 r.2 × IsTidy r.0 r.3) }
 {
     let key = Opening {
@@ -143,7 +153,7 @@ fn three(alloc: Global) -> Result<(Guard<Lot>, Pass<Lot>, Pass<Lot>, Pass<Lot>),
         slots: 100,
         sessions: 3,
     };
-    let (guard, mut closing) = opened(alloc, &key)?;
+    let (guard, mut closing) = open(alloc, &key)?;
     let mine = guard.split(&mut closing);
     let first = guard.split(&mut closing);
     let second = guard.split(&mut closing);

@@ -1,6 +1,6 @@
 //! The widest table.
-use crate::lots::opened;
 use std::test::Fail;
+use table_shelves::open;
 use words_rule::view::Opening;
 
 /// A table of the most variables, elements and slots is opened, and its first seat given.
@@ -12,7 +12,7 @@ fn the_widest_table_opens(rt: HostRuntime) -> Result<(), Fail> {
         slots: 8_388_607,
         sessions: 64,
     };
-    let (guard, mut closing) = opened(rt.alloc(), &key)?;
+    let (guard, mut closing) = open(rt.alloc(), &key)?;
     let _pass = guard.split(&mut closing);
     assert!(&rt; guard.calls(&mut closing) == 0);
     Ok(())

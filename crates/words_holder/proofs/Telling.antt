@@ -25,6 +25,7 @@ use Rattle.node_store.specs.Contents.{Content, IsOrder, IsSound}
 use Rattle.node_store.specs.Changes.{CanFree, exchanged, put_at, rewritten, with_node, with_pin}
 use Rattle.node_store.proofs.Rewriting.{put_at-same}
 use Rattle.words_holder.specs.declared.holder.Due.{Due}
+use Rattle.words_holder.specs.declared.holder.Lent.{Lent}
 use Rattle.words_holder.specs.Holders.{hand_of, knows}
 use Rattle.words_holder.proofs.Holding.{exchanged_long, level_same, with_pending}
 use Rattle.words_rule.specs.declared.view.SeenWord.{SeenWord}
@@ -45,8 +46,8 @@ one_same true = refl
 one_same false = refl
 
 -- a chain that is known whole is so for the trait
-pub whole_told : (v : View) (renewed : std.Option ℕ) (due : std.Option Due) (named : Bool) (head level : ℕ) (chain : List ℕ) → KnowsAll v → IsWholeChain v head level chain → IsWhole (knows v renewed due named) head level chain
-whole_told v renewed due named head level chain k w = record {
+pub whole_told : (v : View) (renewed : std.Option ℕ) (due : std.Option Due) (lent : Lent) (head level : ℕ) (chain : List ℕ) → KnowsAll v → IsWholeChain v head level chain → IsWhole (knows v renewed due lent) head level chain
+whole_told v renewed due lent head level chain k w = record {
   chained = w.chained;
   used = w.used;
   all = λ s is. w.all s is.word is.high is.has is.head_is (is.level_is ∙ sym (level_same v k is.word));
@@ -63,27 +64,31 @@ head_noted v know slot head inside is = let n = know.noted slot inside in let at
 pub can_free : (v : View) (slot : ℕ) → IsDead (held_content v) slot → CanFree (held_content v) slot
 can_free v slot d = record { used = d.used; spare = d.spare; sweeping = refl; uncounted = d.uncounted; unpinned = d.unpinned; unnamed = d.unnamed }
 
-module _ (v u : View) (renewed : std.Option ℕ) (due : std.Option Due) (named : Bool) where
+module _ (v u : View) (renewed : std.Option ℕ) (due : std.Option Due) (lent : Lent) where
   abbrev K : Knowledge
-  K = knows v renewed due named
+  K = knows v renewed due lent
 
-  pub added_told : (k : Kind) (node : Node) (list : List ℕ) (slot bits : ℕ) → HasAdded k node list slot bits v u
-      → knows u None due named ≡ record { content = with_node K.content slot node (node_function k K.content node); bits = put_at K.bits slot bits; heads = K.heads; hand = record K.hand { free = Some list; loose = Some slot; renewed = None; link = None } }
-  added_told k node list slot bits a = λ i. record { content = a.content i; bits = a.bits_are i; heads = heads (shape_in (a.still.draws i)); hand = hand_of (a.hand i) None due named }
+  pub added_told : (k : Kind) (node : Node) (list : List ℕ) (slot bits : ℕ) → lent.free ≡ true → HasAdded k node list slot bits v u
+      → knows u None due lent ≡ record { content = with_node K.content slot node (node_function k K.content node); bits = put_at K.bits slot bits; heads = K.heads; hand = record K.hand { free = Some list; loose = Some slot; renewed = None; link = None } }
+  added_told k node list slot bits given a =
+      (λ i. record { content = a.content i; bits = a.bits_are i; heads = heads (shape_in (a.still.draws i)); hand = hand_of (a.hand i) None due lent })
+      ∙ ap (λ (b : Bool). record { content = with_node K.content slot node (node_function k K.content node); bits = put_at K.bits slot bits; heads = K.heads; hand = record K.hand { free = if b then Some list else None; loose = Some slot; renewed = None; link = None } }) given
 
   pub rewritten_told : (node : Node) (slot bits : ℕ) → HasRewritten node slot bits v u
-      → knows u renewed due named ≡ record K { content = rewritten K.content slot node.var (record { index = node.hi; complement = false }) node.lo; bits = put_at K.bits slot bits }
-  rewritten_told node slot bits a = λ i. record { content = a.content i; bits = a.bits_are i; heads = heads (shape_in (a.still.draws i)); hand = hand_of (a.hand i) renewed due named }
+      → knows u renewed due lent ≡ record K { content = rewritten K.content slot node.var (record { index = node.hi; complement = false }) node.lo; bits = put_at K.bits slot bits }
+  rewritten_told node slot bits a = λ i. record { content = a.content i; bits = a.bits_are i; heads = heads (shape_in (a.still.draws i)); hand = hand_of (a.hand i) renewed due lent }
 
-  pub freed_told : (list : List ℕ) (slot : ℕ) → HasFreed list slot v u
-      → knows u None due named ≡ record { content = freed K.content slot; bits = put_at K.bits slot 0; heads = K.heads; hand = record K.hand { free = Some (slot ∷ list); loose = None; renewed = None; link = None } }
-  freed_told list slot a = λ i. record { content = a.content i; bits = a.bits_are i; heads = heads (shape_in (a.still.draws i)); hand = hand_of (a.hand i) None due named }
+  pub freed_told : (list : List ℕ) (slot : ℕ) → lent.free ≡ true → HasFreed list slot v u
+      → knows u None due lent ≡ record { content = freed K.content slot; bits = put_at K.bits slot 0; heads = K.heads; hand = record K.hand { free = Some (slot ∷ list); loose = None; renewed = None; link = None } }
+  freed_told list slot given a =
+      (λ i. record { content = a.content i; bits = a.bits_are i; heads = heads (shape_in (a.still.draws i)); hand = hand_of (a.hand i) None due lent })
+      ∙ ap (λ (b : Bool). record { content = freed K.content slot; bits = put_at K.bits slot 0; heads = K.heads; hand = record K.hand { free = if b then Some (slot ∷ list) else None; loose = None; renewed = None; link = None } }) given
 
   pub found_told : (slot n : ℕ) → HasFound slot n v u
-      → (count : ℕ) × (knows u renewed due named ≡ record K { content = record K.content { count = put_at K.content.count slot count } }) × (count_of n ≡ count + (if K.content.pinned slot then 1 else 0))
+      → (count : ℕ) × (knows u renewed due lent ≡ record K { content = record K.content { count = put_at K.content.count slot count } }) × (count_of n ≡ count + (if K.content.pinned slot then 1 else 0))
   found_told slot n f = (
     f.count,
-    (λ i. record { content = f.content i; bits = λ s. held_bits (f.is i) s; heads = heads (shape_in (f.is i).draws); hand = hand_of (f.is i).hand renewed due named }),
+    (λ i. record { content = f.content i; bits = λ s. held_bits (f.is i) s; heads = heads (shape_in (f.is i).draws); hand = hand_of (f.is i).hand renewed due lent }),
     f.counted ∙ ap (λ m. f.count + m) (one_same (K.content.pinned slot)),
   )
 
@@ -91,15 +96,15 @@ module _ (v u : View) (renewed : std.Option ℕ) (due : std.Option Due) (named :
   zero_stays slot n f zero = ap (λ (w : Content). w.count slot) f.content ∙ put_at-same (held_content v).count slot f.count ∙ f.stays zero
 
   pub renewed_told : (slot n : ℕ) → HasRenewed slot n v u
-      → knows u (Some slot) due named ≡ record K { content = record K.content { generation = put_at K.content.generation slot (generation_of n) }; hand = record K.hand { renewed = Some slot } }
-  renewed_told slot n f = λ i. record { content = f.content i; bits = λ s. held_bits (f.is i) s; heads = heads (shape_in (f.is i).draws); hand = hand_of (f.is i).hand (Some slot) due named }
+      → knows u (Some slot) due lent ≡ record K { content = record K.content { generation = put_at K.content.generation slot (generation_of n) }; hand = record K.hand { renewed = Some slot } }
+  renewed_told slot n f = λ i. record { content = f.content i; bits = λ s. held_bits (f.is i) s; heads = heads (shape_in (f.is i).draws); hand = hand_of (f.is i).hand (Some slot) due lent }
 
-  pub pinned_told : (slot : ℕ) (pinned : Bool) (pins : List ℕ) → HasPinned slot pinned pins v u → knows u renewed due named ≡ record K { content = with_pin K.content slot pinned }
-  pinned_told slot pinned pins f = λ i. record { content = f.content i; bits = λ s. held_bits (f.is i) s; heads = heads (shape_in (f.is i).draws); hand = hand_of (f.is i).hand renewed due named }
+  pub pinned_told : (slot : ℕ) (pinned : Bool) (pins : List ℕ) → HasPinned slot pinned pins v u → knows u renewed due lent ≡ record K { content = with_pin K.content slot pinned }
+  pinned_told slot pinned pins f = λ i. record { content = f.content i; bits = λ s. held_bits (f.is i) s; heads = heads (shape_in (f.is i).draws); hand = hand_of (f.is i).hand renewed due lent }
 
   pub exchanged_told : (order : Order) (level : ℕ) (l : List ℕ) → HasExchanged order level v u
-      → knows (with_pending u l) renewed (Some (record { order = order; level = level + 1 })) named ≡ record K { content = record K.content { orders = exchanged K.content.orders order level; half = None }; hand = record K.hand { pending = Some (record { order = order; level = level + 1 }) } }
-  exchanged_told order level l r = λ i. record { content = r.content i; bits = r.bits_are i; heads = heads (shape_in (r.draws i)); hand = hand_of (r.hand i) renewed (Some (record { order = order; level = level + 1 })) named }
+      → knows (with_pending u l) renewed (Some (record { order = order; level = level + 1 })) lent ≡ record K { content = record K.content { orders = exchanged K.content.orders order level; half = None }; hand = record K.hand { pending = Some (record { order = order; level = level + 1 }) } }
+  exchanged_told order level l r = λ i. record { content = r.content i; bits = r.bits_are i; heads = heads (shape_in (r.draws i)); hand = hand_of (r.hand i) renewed (Some (record { order = order; level = level + 1 })) lent }
 
 -- an order as it is known has each number once
 pub is_order : (w : Content) → IsSound w → (order : Order) → IsOrder (in_order w.orders order)

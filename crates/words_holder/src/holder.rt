@@ -1,13 +1,15 @@
 //! A seat with the order and the full hold, as a holder of its table.
 ghost use Rattle.std.specs.Prelude.{◌≡◌, [], None};
 ghost use Rattle.hold_store.specs.Held.{idle};
-ghost use Rattle.words_holder.specs.Holders.{IsHolderAt, knows, rest_of};
+ghost use Rattle.words_holder.specs.Holders.{IsHolderAt, IsSpareRoom, knows, rest_of};
 ghost use Rattle.words_rule.specs.Holds.{IsFullHold};
 ghost use Rattle.words_rule.specs.Passes.{in_hand, view};
 
 use crate::holder_shelf::HolderShelf;
 use crate::told_steps;
-use hold_store::Holds;
+use computed_cache::Memo;
+use free_list::FreeList;
+use hold_store::{HolderRoom, Holds};
 use node_store::Order;
 use std::collections::LinkedList;
 use std::marker::Brand;
@@ -34,14 +36,21 @@ pub struct HolderRest {
     pub told_elements: LinkedList<u32>,
 }
 
-/// A seat with both holds at its table, the free list where it has that in hand, and the computed table, which it has without answers.
+/// What of its table a holder has given to who asks for the steps: the free list, and the computed table.
+#[derive(Debug, Clone, Copy, PartialEq, Eq, Drop)]
+pub struct Lent {
+    pub free: bool,
+    pub memo: bool,
+}
+
+/// A seat with both holds at its table, which has the free list and the computed table in hand, that without answers.
 #[derive(Drop)]
 pub struct Holder<'a, S: HolderShelf> {
     guard: &'a Guard<S>,
     pass: Pass<S>,
-    free: Option<S>,
-    memo: S,
-    named: bool,
+    list: FreeList,
+    memo: Memo,
+    lent: Lent,
     renewed: Option<u32>,
     due: Option<Due>,
 }
@@ -53,9 +62,9 @@ impl<'a, S: HolderShelf> Holds for Holder<'a, S> {
 
     type Rest = HolderRest;
 
-    ghost known = { λ h. knows (view h.pass) h.renewed h.due h.named };
+    ghost known = { λ h. knows (view h.pass) h.renewed h.due h.lent };
 
-    ghost holds = { λ h. IsHolderAt S.free_slots S.memo h.guard.now h.pass h.free h.memo h.due };
+    ghost holds = { λ h. IsHolderAt h.guard.now h.pass h.list h.memo h.due };
 
     ghost table = { λ h. h.pass.seat.table_id.views_name };
 
@@ -98,37 +107,23 @@ impl<'a, S: HolderShelf> Holds for Holder<'a, S> {
     }
 
     fn take_free(&mut self) -> bool {
-        if self.free.is_some() {
+        if self.lent.free {
             return false;
         }
-        match self.guard.claim_free(&mut self.pass) {
-            Some(content) => {
-                self.free = Some(content);
-                true
-            }
-            None => false,
-        }
+        self.lent.free = true;
+        true
     }
 
     fn give_free(&mut self) {
-        match self.free.take() {
-            Some(content) => self.guard.return_free(&mut self.pass, content),
-            None => unreachable!(),
-        }
+        self.lent.free = false;
     }
 
     fn first_free(&self) -> Option<u32> {
-        match &self.free {
-            Some(content) => content.first_slot(),
-            None => unreachable!(),
-        }
+        self.list.first()
     }
 
     fn taken(&self) -> u32 {
-        match &self.free {
-            Some(content) => content.taken(),
-            None => unreachable!(),
-        }
+        self.list.taken()
     }
 
     fn load_node(&mut self, slot: u32) -> u64 {
@@ -170,9 +165,7 @@ impl<'a, S: HolderShelf> Holds for Holder<'a, S> {
     fn store_node(&mut self, slot: u32, bits: u64) {
         self.guard.add_node(&mut self.pass, slot, bits);
         self.renewed = None;
-        if let Some(content) = &mut self.free {
-            content.next_slot();
-        }
+        self.list.take_first();
     }
 
     fn rewrite_node(&mut self, slot: u32, bits: u64) {
@@ -182,9 +175,7 @@ impl<'a, S: HolderShelf> Holds for Holder<'a, S> {
     fn free_node(&mut self, slot: u32) {
         self.guard.free_node(&mut self.pass, slot);
         self.renewed = None;
-        if let Some(content) = &mut self.free {
-            content.push_slot(slot);
-        }
+        self.list.push(slot);
     }
 
     fn load_count(&mut self, slot: u32) -> u64 {
@@ -227,10 +218,10 @@ impl<'a, S: HolderShelf> Holds for Holder<'a, S> {
     }
 
     fn take_memo(&mut self) -> bool {
-        if self.named {
+        if self.lent.memo {
             return false;
         }
-        self.named = true;
+        self.lent.memo = true;
         true
     }
 
@@ -239,42 +230,53 @@ impl<'a, S: HolderShelf> Holds for Holder<'a, S> {
     }
 
     fn give_memo(&mut self) {
-        self.named = false;
+        self.lent.memo = false;
     }
 
-    ghost stands = { holder_stands S.free_slots S.memo };
+    ghost stands = { holder_stands };
 }
 
 impl<'a, S: HolderShelf> Holder<'a, S> {
-    /// The seat of both holds as a holder of its table: it learns the store, and waits for the computed table, whose answers it drops.
-    pub fn new<R: Wait>(rt: &R, guard: &'a Guard<S>, hold: FullHold<S>) -> Holder<'a, S>
+    /// The seat of both holds as a holder of its table, and the room for what he notes: it learns the store, and waits for the free list and for the computed table, whose answers it drops.
+    pub fn new<R: Wait>(
+        rt: &R,
+        guard: &'a Guard<S>,
+        hold: FullHold<S>,
+    ) -> (Holder<'a, S>, HolderRoom)
         requires own { IsFullHold guard.now hold }
         requires fresh { ((view hold.pass).counts.pins ≡ []) × ((view hold.pass).counts.zeros ≡ []) }
         requires idle { ((view hold.pass).hand.levels ≡ []) × ((view hold.pass).hand.free ≡ None) × ((view hold.pass).hand.link ≡ None) }
         requires empty { in_hand hold.pass ≡ [] }
-        ensures holds { IsHolderAt S.free_slots S.memo result.guard.now result.pass result.free result.memo result.due }
-        ensures home { (result.pass.seat.table_id ≡ hold.pass.seat.table_id) × (rest_of (view result.pass) ≡ rest_of (view hold.pass)) }
-        ensures idle { (knows (view result.pass) result.renewed result.due result.named).hand ≡ idle }
+        ensures holds { IsHolderAt result.0.guard.now result.0.pass result.0.list result.0.memo result.0.due }
+        ensures home { (result.0.pass.seat.table_id ≡ hold.pass.seat.table_id) × (rest_of (view result.0.pass) ≡ rest_of (view hold.pass)) }
+        ensures idle { (knows (view result.0.pass) result.0.renewed result.0.due result.0.lent).hand ≡ idle }
+        ensures room { IsSpareRoom (view result.0.pass).draws.slots result.1 }
     {
         let FullHold { mut pass } = hold;
         guard.learn(&mut pass);
         let memo = told_steps::await_memo(rt, guard, &mut pass);
-        Holder {
+        let (list, room) = told_steps::await_list(rt, guard, &mut pass);
+        let holder = Holder {
             guard,
             pass,
-            free: None,
+            list,
             memo,
-            named: false,
+            lent: Lent {
+                free: false,
+                memo: false,
+            },
             renewed: None,
             due: None,
-        }
+        };
+        (holder, room)
     }
 
-    /// The full hold, once nothing is in hand. No slot is pinned, and no swap is half made.
-    pub fn into_hold(self) -> FullHold<S>
-        requires own { IsHolderAt S.free_slots S.memo self.guard.now self.pass self.free self.memo self.due }
-        requires idle { (knows (view self.pass) self.renewed self.due self.named).hand ≡ idle }
+    /// The full hold, once nothing is in hand, with the room that came with it. No slot is pinned, and no swap is half made.
+    pub fn into_hold(self, room: HolderRoom) -> FullHold<S>
+        requires own { IsHolderAt self.guard.now self.pass self.list self.memo self.due }
+        requires idle { (knows (view self.pass) self.renewed self.due self.lent).hand ≡ idle }
         requires settled { (view self.pass).known.half ≡ None }
+        requires room { IsSpareRoom (view self.pass).draws.slots room }
         ensures own { IsFullHold self.entry.guard.now result }
         ensures home { (result.pass.seat.table_id ≡ self.entry.pass.seat.table_id) × (rest_of (view result.pass) ≡ rest_of (view self.entry.pass)) }
         ensures empty { in_hand result.pass ≡ [] }
@@ -282,17 +284,14 @@ impl<'a, S: HolderShelf> Holder<'a, S> {
         let Holder {
             guard,
             mut pass,
-            free,
+            list,
             memo,
-            named: _,
+            lent: _,
             renewed: _,
             due: _,
         } = self;
-        match free {
-            None => {}
-            Some(_) => unreachable!(),
-        }
-        guard.return_memo(&mut pass, memo);
+        guard.return_free(&mut pass, S::of_list(list, room));
+        guard.return_memo(&mut pass, S::of_memo(memo));
         FullHold { pass }
     }
 }

@@ -1,31 +1,32 @@
-//! What a holder does with what lies in the slots of the table.
+//! What a holder takes out of the slots of the table, and puts back.
 
+use computed_cache::Memo;
+use free_list::FreeList;
+use hold_store::HolderRoom;
 use words_rule::shelf::Shelf;
 
-/// A free list that takes slots back, or a computed table that drops its answers.
+/// A free list, with the room for what its holder notes of the slots, or a computed table.
 pub trait HolderShelf: Shelf {
-    ghost use Rattle.std.specs.Prelude.{◌≡◌, ◌<◌, ◌≤◌, ℕ, List, ◌∷◌, [], length, IfSome, IfNone, None};
-    ghost use Rattle.computed_cache.specs.Entries.{kept_at, places};
-    ghost use Rattle.step_store.specs.Chains.{Lists};
+    ghost use Rattle.std.specs.Prelude.{◌≡◌, ◌<◌};
+    ghost use Rattle.computed_cache.specs.Entries.{places};
+    ghost use Rattle.words_holder.specs.Holders.{IsSpareRoom};
 
-    /// The first slot on the free list, or None where it is empty.
-    fn first_slot(&self) -> Option<u32>
-        ensures some { IfSome result (λ slot. (list : List ℕ) × ((Self.free_slots self.now).slots ≡ slot ∷ list)) }
-        ensures none { IfNone result ((Self.free_slots self.now).slots ≡ []) };
+    /// The free list, and the room that lies with it.
+    fn into_list(self) -> (FreeList, HolderRoom)
+        requires some { 0 < (Self.free_slots self).room }
+        ensures list { result.0 ≡ Self.free_slots self }
+        ensures room { IsSpareRoom result.0.room result.1 };
 
-    /// Puts a slot before the others on the free list.
-    fn push_slot(&mut self, slot: u32)
-        requires room { length (Self.free_slots self.old).slots < (Self.free_slots self.old).room }
-        ensures first { (Self.free_slots self.new).slots ≡ slot ∷ (Self.free_slots self.old).slots }
-        ensures room { (Self.free_slots self.new).room ≡ (Self.free_slots self.old).room };
+    /// Puts them together.
+    fn of_list(list: FreeList, room: HolderRoom) -> Self
+        requires room { IsSpareRoom list.room room }
+        ensures list { Self.free_slots result ≡ list };
 
-    /// Each slot from this one on is on the free list.
-    fn taken(&self) -> u32
-        ensures within { result ≤ (Self.free_slots self.now).room }
-        ensures beyond { (s : ℕ) → result ≤ s → s < (Self.free_slots self.now).room → Lists (Self.free_slots self.now).slots s };
+    /// The computed table.
+    fn into_memo(self) -> Memo
+        requires some { 0 < places (Self.memo self) }
+        ensures memo { result ≡ Self.memo self };
 
-    /// Drops all answers of the computed table.
-    fn clear(&mut self)
-        ensures blank { (i : ℕ) → kept_at (Self.memo self.new) i ≡ None }
-        ensures places { places (Self.memo self.new) ≡ places (Self.memo self.old) };
+    fn of_memo(memo: Memo) -> Self
+        ensures memo { Self.memo result ≡ memo };
 }

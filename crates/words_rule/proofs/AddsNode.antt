@@ -23,9 +23,9 @@ use Rattle.node_store.specs.Views.{CanMake, IsBeyond, node_values, values_at}
 use Rattle.node_store.proofs.Adding.{added_sound}
 use Rattle.node_store.proofs.Parting.{same_kind}
 use Rattle.node_store.proofs.Rewriting.{put_at-same, put_at-other}
+use Rattle.words_rule.specs.declared.cell.Cell.{Cell}
 use Rattle.words_rule.specs.declared.view.Due.{Due}
 use Rattle.words_rule.specs.declared.view.Hand.{Hand}
-use Rattle.words_rule.specs.declared.view.Held.{Held}
 use Rattle.words_rule.specs.declared.view.Hold.TheVariants.{Holding}
 use Rattle.words_rule.specs.declared.view.Job.{Job}
 use Rattle.words_rule.specs.declared.view.Job.TheVariants.{OfNode}
@@ -59,7 +59,7 @@ use Rattle.words_rule.proofs.Rewrites.{holders_now, nobody_keeps, nobody_takes, 
 use Rattle.words_rule.proofs.Seeing.{seen_alone}
 use Rattle.words_rule.proofs.Stepping.{shape_is}
 use Rattle.words_rule.proofs.Tabling.{after_word, set_set}
-use Rattle.words_rule.specs.FreeSlots.{FreeSlots}
+use Rattle.free_list.specs.FreeSlots.{FreeSlots}
 
 abbrev due_of : ℕ → Kind → Node → Due
 due_of q k node = record { slot = q; kind = k; var = node.var; hi = plain node.hi; lo = node.lo }
@@ -140,7 +140,7 @@ some_node a b e = cc
 some_behind : (q : ℕ) (a b : List ℕ) → ◌≡◌ {A = std.Option (List ℕ)} (Some (q ∷ a)) (Some (q ∷ b)) → a ≡ b
 some_behind q a b e = cc
 
-module _ {S : Type 0} (board : S → List (std.Option Held)) (free_slots : S → FreeSlots) (memo : S → List ℕ) where
+module _ {S : Type 0} (board : S → List (std.Option Cell)) (free_slots : S → FreeSlots) (memo : S → List ℕ) where
   abbrev TheRule : State (std.Option S) View → Type 0
   TheRule = Rule board free_slots memo
 

@@ -5,6 +5,7 @@ use mathlib.Core.Option.{none, some}
 use lib.ListN.{get_elem?}
 use Rattle.atomic_table.specs.Table.{State, Me, step, Allows, Joins}
 use Rattle.atomic_table.proofs.Lists.{at_map, set_else}
+use Rattle.words_rule.specs.declared.cell.Cell.{Cell}
 use Rattle.words_rule.specs.declared.view.Held.{Held as HeldEdge}
 use Rattle.words_rule.specs.declared.view.View.{View}
 use Rattle.words_rule.specs.Aparts.{AreApart, crossed, never}
@@ -12,9 +13,9 @@ use Rattle.words_rule.specs.Phase.{Footing, footing_of}
 use Rattle.words_rule.specs.Rule.{Rule, bare, footings_in}
 use Rattle.words_rule.specs.Views.{blank}
 use Rattle.words_rule.proofs.Phases as phases
-use Rattle.words_rule.specs.FreeSlots.{FreeSlots}
+use Rattle.free_list.specs.FreeSlots.{FreeSlots}
 
-module _ {S : Type 0} (board : S → List (std.Option HeldEdge)) (free_slots : S → FreeSlots) (memo : S → List ℕ) where
+module _ {S : Type 0} (board : S → List (std.Option Cell)) (free_slots : S → FreeSlots) (memo : S → List ℕ) where
   abbrev RuleOf : State (std.Option S) View → Type 0
   RuleOf = Rule board free_slots memo
 

@@ -10,6 +10,7 @@ use Rattle.atomic_table.specs.Table.{State, Me, step, keeps, rest, carried_after
 use Rattle.edge_bits.specs.declared.words.Word.{Word}
 use Rattle.function_laws.specs.Kinds.{Denoted}
 use Rattle.step_store.specs.Knowing.{IsWanted}
+use Rattle.words_rule.specs.declared.cell.Cell.{Cell}
 use Rattle.words_rule.specs.declared.view.Held.{Held}
 use Rattle.words_rule.specs.declared.view.Share.TheVariants as shares
 use Rattle.words_rule.specs.declared.view.View.{View}
@@ -35,9 +36,9 @@ use Rattle.words_rule.proofs.StoreClauses.{step_take_slot}
 use Rattle.words_rule.proofs.NodeLoads.{loads_met}
 use Rattle.words_rule.proofs.NodeStores.{step_store_taken}
 use Rattle.words_rule.proofs.WalkSteps.{step_load_word}
-use Rattle.words_rule.specs.FreeSlots.{FreeSlots}
+use Rattle.free_list.specs.FreeSlots.{FreeSlots}
 
-module _ {S : Type 0} (board : S → List (std.Option Held)) (free_slots : S → FreeSlots) (memo : S → List ℕ) where
+module _ {S : Type 0} (board : S → List (std.Option Cell)) (free_slots : S → FreeSlots) (memo : S → List ℕ) where
   abbrev TheRule : State (std.Option S) View → Type 0
   TheRule = Rule board free_slots memo
 

@@ -12,6 +12,7 @@ use Rattle.atomic_table.proofs.Lists.{at_map}
 use Rattle.function_laws.specs.declared.history.Function.{Function}
 use Rattle.function_laws.specs.Kinds.{Denoted, flipped}
 use Rattle.handle_count.specs.CountWords.{count_of}
+use Rattle.words_rule.specs.declared.cell.Cell.{Cell}
 use Rattle.words_rule.specs.declared.view.Held.{Held}
 use Rattle.words_rule.specs.declared.view.Row.{Row}
 use Rattle.words_rule.specs.declared.view.Hold.TheVariants.{Holding}
@@ -33,7 +34,7 @@ use Rattle.words_rule.proofs.Pinning.{parts_zero}
 use Rattle.words_rule.proofs.Stepping.{shape_is}
 use Rattle.words_rule.proofs.Tabling.{stays}
 use Rattle.words_rule.proofs.Tallying.{total-has}
-use Rattle.words_rule.specs.FreeSlots.{FreeSlots}
+use Rattle.free_list.specs.FreeSlots.{FreeSlots}
 
 -- a slot of which an edge is held denotes something
 denotes_held : (z : Shape) (function : ℕ → std.Option Denoted) (k : ℕ) (held : Held) → held.edge.index ≡ k → IsHeldBy z function held → (o : Denoted) × (function k ≡ Some o)
@@ -47,7 +48,7 @@ denotes_held z function k held at is = by (function k) refl
     by (Some o) e = (o, e)
     by None e = absurd (never held.edge.complement is.0 (ap (flipped held.edge.complement) (sym (ap function at ∙ e)) ∙ is.1))
 
-module _ {S : Type 0} (board : S → List (std.Option Held)) (free_slots : S → FreeSlots) (memo : S → List ℕ) where
+module _ {S : Type 0} (board : S → List (std.Option Cell)) (free_slots : S → FreeSlots) (memo : S → List ℕ) where
   module _ (z : Shape) (ws : Words) (home : ℕ → Option (Option (std.Option S))) (vs : List View) (r : Parts board free_slots memo z ws home vs) (id : ℕ) (v : View) (at : get_elem? vs id ≡ some v) (holding : v.shares.order ≡ Holding) where
     -- so does one that is counted, and not by a pin of the holder's own
     pub counted_denotes : (k : ℕ) → times k v.counts.pins ≡ 0 → 0 < count_of (ws.count k) → (o : Denoted) × (r.function k ≡ Some o)

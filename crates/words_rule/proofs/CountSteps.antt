@@ -12,6 +12,7 @@ use Rattle.handle_count.specs.CountWords.{count_of, generation_of}
 use Rattle.node_store.specs.KindLaws.{flipped-some}
 use Rattle.node_store.specs.Changes.{put_at}
 use Rattle.node_store.proofs.Rewriting.{put_at-same, put_at-other}
+use Rattle.words_rule.specs.declared.cell.Cell.{Cell}
 use Rattle.words_rule.specs.declared.view.Held.{Held}
 use Rattle.words_rule.specs.declared.view.Row.{Row}
 use Rattle.words_rule.specs.declared.view.Share.TheVariants as shares
@@ -31,7 +32,7 @@ use Rattle.words_rule.proofs.Stepping.{shape_is, parts_raise, parts_raise_row, p
 use Rattle.words_rule.proofs.Pinning.{parts_pin, parts_unpin}
 use Rattle.words_rule.proofs.Meeting.{content_true}
 use Rattle.words_rule.proofs.Tabling.{after_word}
-use Rattle.words_rule.specs.FreeSlots.{FreeSlots}
+use Rattle.free_list.specs.FreeSlots.{FreeSlots}
 
 pub up_count : (n : ℕ) → n < 18446744073709551616 → count_of n ≤ 2 ^ 31 + 320 → count_of ((n + 1) % 2 ^ 64) ≡ suc (count_of n)
 up_count n lt few = omega (arith, lt, few)
@@ -51,7 +52,7 @@ counted_row k (x ∷ rows) zero row at is =
     let e : one_if (x.held.edge.index == k) ≡ 1 = ap one_if (eq-eqb x.held.edge.index k (ap (λ (y : Row). y.held.edge.index) (some-injective x row at) ∙ is)) in omega (arith, e)
 counted_row k (x ∷ rows) (suc j) row at is = let later = counted_row k rows j row at is in omega (arith, later)
 
-module _ {S : Type 0} (board : S → List (std.Option Held)) (free_slots : S → FreeSlots) (memo : S → List ℕ) (slots id : ℕ) (me : Me (std.Option S) View) (live : me.0.draws.live ≡ true) where
+module _ {S : Type 0} (board : S → List (std.Option Cell)) (free_slots : S → FreeSlots) (memo : S → List ℕ) (slots id : ℕ) (me : Me (std.Option S) View) (live : me.0.draws.live ≡ true) where
   abbrev PartsOf : Shape → Words → (ℕ → Option (Option (std.Option S))) → List View → Type 0
   PartsOf = Parts board free_slots memo
 

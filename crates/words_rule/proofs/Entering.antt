@@ -18,6 +18,7 @@ use Rattle.function_laws.specs.Values.{projection}
 use Rattle.node_store.specs.KindLaws.{flipped-some}
 use Rattle.node_store.specs.Contents.{constant_value}
 use Rattle.step_store.specs.Knowing.{Stands}
+use Rattle.words_rule.specs.declared.cell.Cell.{Cell}
 use Rattle.words_rule.specs.declared.view.Held.{Held}
 use Rattle.words_rule.specs.declared.view.Row.{Row}
 use Rattle.words_rule.specs.declared.view.Draws.{Draws}
@@ -43,7 +44,7 @@ use Rattle.words_rule.proofs.Meeting.{content_true}
 use Rattle.words_rule.proofs.WalkSteps.{list_true}
 use Rattle.words_rule.proofs.FirstStands.{stands_first}
 use Rattle.words_rule.proofs.Learning.{with_notes, AllHave, words_at, held_at, each_word, each_held, met_here, below, lists_below, all_below, lists_left, lists_right, all_both, parts_noting, noting_function}
-use Rattle.words_rule.specs.FreeSlots.{FreeSlots}
+use Rattle.free_list.specs.FreeSlots.{FreeSlots}
 
 some_denoted : (a b : Denoted) → Some a ≡ Some b → a ≡ b
 some_denoted a b e = cc
@@ -69,7 +70,7 @@ rows_still z function notes [] same all = tt
 rows_still z function notes (row ∷ rows) same all =
     ((all.0.0, ap (λ (x : std.Option Denoted). flipped row.held.edge.complement x) (same row.held.edge.index (inl refl)) ∙ all.0.1, all.0.2), rows_still z function notes rows (λ s there. same s (inr there)) all.1)
 
-module _ {S : Type 0} (board : S → List (std.Option Held)) (free_slots : S → FreeSlots) (memo : S → List ℕ) where
+module _ {S : Type 0} (board : S → List (std.Option Cell)) (free_slots : S → FreeSlots) (memo : S → List ℕ) where
   abbrev PartsOf : Shape → Words → (ℕ → Option (Option (std.Option S))) → List View → Type 0
   PartsOf = Parts board free_slots memo
 

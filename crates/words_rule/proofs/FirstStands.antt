@@ -14,6 +14,7 @@ use Rattle.node_store.specs.Contents.{Content, view_of, constant_value, projecti
 use Rattle.node_store.specs.Views.{values_at}
 use Rattle.node_slots.proofs.Canonical.{edge_is}
 use Rattle.step_store.specs.Knowing.{Knowledge, Stands}
+use Rattle.words_rule.specs.declared.cell.Cell.{Cell}
 use Rattle.words_rule.specs.declared.view.Held.{Held}
 use Rattle.words_rule.specs.declared.view.Share.TheVariants as shares
 use Rattle.words_rule.specs.declared.view.View.{View}
@@ -26,7 +27,7 @@ use Rattle.words_rule.proofs.Stepping.{shape_is}
 use Rattle.words_rule.proofs.Opened.{at_edge, top_word}
 use Rattle.words_rule.proofs.Narrowing.{Has, content_same, denotes_up, denotes_down, level_same}
 use Rattle.words_rule.proofs.Meeting.{content_true, narrow}
-use Rattle.words_rule.specs.FreeSlots.{FreeSlots}
+use Rattle.free_list.specs.FreeSlots.{FreeSlots}
 
 few_bits : (k slots : ℕ) → head_bits k slots ≤ 6 + k
 unfolding head_bits
@@ -37,7 +38,7 @@ few_bits (suc k) slots = by (nat_lt (2 ^ head_bits k slots * 2) slots) (few_bits
     by true le = omega (arith, le)
     by false le = omega (arith, le)
 
-module _ {S : Type 0} (board : S → List (std.Option Held)) (free_slots : S → FreeSlots) (memo : S → List ℕ) where
+module _ {S : Type 0} (board : S → List (std.Option Cell)) (free_slots : S → FreeSlots) (memo : S → List ℕ) where
   module _ (z : Shape) (ws : Words) (home : ℕ → Option (Option (std.Option S))) (vs : List View) (r : Parts board free_slots memo z ws home vs) (id : ℕ) (v : View) (at : get_elem? vs id ≡ some v)
       (live : v.draws.live ≡ std.true) (share : v.shares.op ≡ shares.Held) (o : Own) where
     abbrev w : Content

@@ -14,14 +14,14 @@ use Rattle.node_store.proofs.Parting.{same_kind}
 use Rattle.step_store.specs.declared.job.Job as steps
 use Rattle.step_store.specs.declared.job.Job.TheVariants as jobs
 use Rattle.step_store.specs.Knowing.{IsDue, MayMake, risen}
-use Rattle.words_rule.specs.declared.view.Held.{Held}
+use Rattle.words_rule.specs.declared.cell.Cell.{Cell}
 use Rattle.words_rule.specs.declared.view.View.{View}
 use Rattle.words_rule.specs.Rule.{Rule}
 use Rattle.words_rule.specs.Plays.{empty_given}
 use Rattle.words_rule.proofs.Lists.{set_at}
 use Rattle.words_rule.proofs.Tabling.{gives_free_list, set_set}
 use Rattle.words_rule.proofs.Working.{rule_work}
-use Rattle.words_rule.specs.FreeSlots.{FreeSlots}
+use Rattle.free_list.specs.FreeSlots.{FreeSlots}
 
 some_denoted : (a b : Denoted) → Some a ≡ Some b → a ≡ b
 some_denoted a b e = cc
@@ -37,7 +37,7 @@ is_due w new (jobs.Node v hi lo) may is = λ k can.
     is ∙ ap (λ (j : Kind). Some (function_of j (node_values j w v hi lo))) same
 is_due w new (jobs.Leaf x) may is = is
 
-module _ {S : Type 0} (board : S → List (std.Option Held)) (free_slots : S → FreeSlots) (memo : S → List ℕ) where
+module _ {S : Type 0} (board : S → List (std.Option Cell)) (free_slots : S → FreeSlots) (memo : S → List ℕ) where
   abbrev TheRule : State (std.Option S) View → Type 0
   TheRule = Rule board free_slots memo
 

@@ -20,6 +20,7 @@ use Rattle.edge_bits.specs.declared.words.Word.TheVariants.{Inner}
 use Rattle.node_store.specs.Changes.{put_at, CanFree, without}
 use Rattle.node_store.proofs.Rewriting.{put_at-same, put_at-other}
 use Rattle.node_store.proofs.Freeing.{freed_sound}
+use Rattle.words_rule.specs.declared.cell.Cell.{Cell}
 use Rattle.words_rule.specs.declared.view.Held.{Held}
 use Rattle.words_rule.specs.declared.view.Row.{Row}
 use Rattle.words_rule.specs.declared.view.Hand.{Hand}
@@ -44,7 +45,7 @@ use Rattle.words_rule.specs.declared.view.Known.{Known}
 use Rattle.words_rule.specs.declared.view.Neighbours.{Neighbours}
 use Rattle.words_rule.specs.Views.{orders_of, told_orders}
 use Rattle.words_rule.proofs.Remembering.{remembered_still}
-use Rattle.words_rule.specs.FreeSlots.{FreeSlots}
+use Rattle.free_list.specs.FreeSlots.{FreeSlots}
 
 -- generations are no matter of this part
 pub sound_whatever : (w : Content) (g : ℕ → ℕ) → IsSound w → IsSound (record w { generation = g })
@@ -130,7 +131,7 @@ module _ (w : Content) (sound : IsSound w) where
       let n = sound.nodes s (projection_node v) d.0 word d.1 in
       d.1 ∙ ap std.Some (n.is ∙ projected v n.kind n.high n.low (sym sound.logic_one ∙ n.high_is) (ap (flipped true) (sym sound.logic_one) ∙ n.low_is))
 
-module _ {S : Type 0} (board : S → List (std.Option Held)) (free_slots : S → FreeSlots) (memo : S → List ℕ) where
+module _ {S : Type 0} (board : S → List (std.Option Cell)) (free_slots : S → FreeSlots) (memo : S → List ℕ) where
   abbrev PartsOf : Shape → Words → (ℕ → Option (Option (std.Option S))) → List View → Type 0
   PartsOf = Parts board free_slots memo
 

@@ -9,7 +9,7 @@ use Rattle.node_store.specs.Contents.{Content, IsSound}
 use Rattle.node_store.specs.Changes.{CanFree, put_at, without}
 use Rattle.node_store.proofs.Freeing.{freed_sound}
 use Rattle.node_store.proofs.Rewriting.{put_at-same, put_at-other}
-use Rattle.words_rule.specs.declared.view.Held.{Held}
+use Rattle.words_rule.specs.declared.cell.Cell.{Cell}
 use Rattle.words_rule.specs.declared.view.Hold.TheVariants.{Holding}
 use Rattle.words_rule.specs.declared.view.Known.{Known}
 use Rattle.words_rule.specs.declared.view.View.{View}
@@ -29,7 +29,7 @@ use Rattle.words_rule.proofs.Layouts.{set_node}
 use Rattle.words_rule.proofs.Rewrites.{order_by_full}
 use Rattle.words_rule.proofs.Stepping.{shape_is}
 use Rattle.words_rule.proofs.Tabling.{after_word}
-use Rattle.words_rule.specs.FreeSlots.{FreeSlots}
+use Rattle.free_list.specs.FreeSlots.{FreeSlots}
 
 -- what the seat has and knows after it
 abbrev emptying : View → ℕ → List ℕ → View
@@ -77,7 +77,7 @@ module _ (v : View) (know : KnowsAll v) (q : ℕ) (list : List ℕ) (inside : q 
 can_free : (w : Content) (c g : ℕ → ℕ) (p : ℕ → Bool) (q : ℕ) → w.sweeping ≡ true → w.count q ≡ 0 → w.pinned q ≡ false → CanFree (counted w c g p) q → CanFree w q
 can_free w c g p q sweeping uncounted unpinned can = record { used = can.used; spare = can.spare; sweeping = sweeping; uncounted = uncounted; unpinned = unpinned; unnamed = can.unnamed }
 
-module _ {S : Type 0} (board : S → List (std.Option Held)) (free_slots : S → FreeSlots) (memo : S → List ℕ) where
+module _ {S : Type 0} (board : S → List (std.Option Cell)) (free_slots : S → FreeSlots) (memo : S → List ℕ) where
   abbrev TheRule : State (std.Option S) View → Type 0
   TheRule = Rule board free_slots memo
 

@@ -11,7 +11,7 @@ use Rattle.atomic_table.specs.Table.{Me, step, keeps, Allows}
 use Rattle.atomic_table.proofs.Lists.{at_map, set_else}
 use Rattle.seat_guard.proofs.Bits.{xor_set}
 use Rattle.function_laws.specs.EntryOrders.{opening_orders, orders_from}
-use Rattle.words_rule.specs.declared.view.Held.{Held}
+use Rattle.words_rule.specs.declared.cell.Cell.{Cell}
 use Rattle.words_rule.specs.declared.view.Known.{Known}
 use Rattle.words_rule.specs.declared.view.Neighbours.{Neighbours}
 use Rattle.words_rule.specs.declared.view.Hold.{Hold}
@@ -30,9 +30,9 @@ use Rattle.words_rule.proofs.PhaseSteps.{ends, here, home, low, n, ws}
 use Rattle.words_rule.proofs.Rewrites.{order_by_full, parts_known}
 use Rattle.words_rule.proofs.Stepping.{parts_full_hold, parts_full_out}
 use Rattle.words_rule.proofs.Tabling.{set_set, stays}
-use Rattle.words_rule.specs.FreeSlots.{FreeSlots}
+use Rattle.free_list.specs.FreeSlots.{FreeSlots}
 
-module _ {S : Type 0} (board : S → List (std.Option Held)) (free_slots : S → FreeSlots) (memo : S → List ℕ) where
+module _ {S : Type 0} (board : S → List (std.Option Cell)) (free_slots : S → FreeSlots) (memo : S → List ℕ) where
   module _ (z : Shape) (ws : Words) (home : ℕ → Option (Option (std.Option S))) (vs : List View) (r : Parts board free_slots memo z ws home vs) (id : ℕ) (v : View) (at : get_elem? vs id ≡ some v) where
     holds : (h : Hold) → 0 < hold h → h ≡ Holding
     holds Holding lt = refl

@@ -12,6 +12,7 @@ use Rattle.step_store.specs.declared.hand.Link as declared
 use Rattle.step_store.specs.Knowing as knowing
 use Rattle.step_store.specs.Knowing.{Knowledge, IsChain}
 use Rattle.step_store.proofs.Chaining.{once_short}
+use Rattle.words_rule.specs.declared.cell.Cell.{Cell}
 use Rattle.words_rule.specs.declared.view.Held.{Held}
 use Rattle.words_rule.specs.declared.view.Share.TheVariants as shares
 use Rattle.words_rule.specs.declared.view.Walk.{Walk}
@@ -31,7 +32,7 @@ use Rattle.words_rule.proofs.Stepping.{shape_is}
 use Rattle.words_rule.proofs.Tabling.{stays, takes_turn, gives_turn, takes_free_list, stores_next}
 use Rattle.words_rule.proofs.Storing.{pushes_noted}
 use Rattle.words_rule.proofs.NodeLoads.{lists_back}
-use Rattle.words_rule.specs.FreeSlots.{FreeSlots}
+use Rattle.free_list.specs.FreeSlots.{FreeSlots}
 
 pub stands_at : (l : List ℕ) (s : ℕ) → steps.Lists l s → Stands l s
 stands_at [] s h = absurd h
@@ -66,7 +67,7 @@ pub record OnlyHand (v u : View) : Type 0 where
 pub same_view : {v u : View} → u ≡ v → OnlyHand v u
 same_view e = record { draws = ap (λ (x : View). x.draws) e; shares = ap (λ (x : View). x.shares) e; counts = ap (λ (x : View). x.counts) e; known = ap (λ (x : View). x.known) e }
 
-module _ {S : Type 0} (board : S → List (std.Option Held)) (free_slots : S → FreeSlots) (memo : S → List ℕ) where
+module _ {S : Type 0} (board : S → List (std.Option Cell)) (free_slots : S → FreeSlots) (memo : S → List ℕ) where
   abbrev TheRule : State (std.Option S) View → Type 0
   TheRule = Rule board free_slots memo
 

@@ -21,6 +21,7 @@ use Rattle.node_store.specs.Changes.{put_at}
 use Rattle.node_store.proofs.Rewriting.{put_at-other}
 use Rattle.words_rule.specs.Generations.{IsOfSlot}
 use Rattle.words_rule.specs.Holders.{AreHolders, IsHolder}
+use Rattle.words_rule.specs.declared.cell.Cell.{Cell}
 use Rattle.words_rule.specs.declared.view.Held.{Held}
 use Rattle.words_rule.specs.declared.view.SeenWord.{SeenWord}
 use Rattle.words_rule.specs.declared.view.Hold.{Hold}
@@ -58,7 +59,7 @@ use Rattle.words_rule.proofs.Linking.{hand_links, links_it, words_it, head_withi
 use Rattle.words_rule.proofs.Draws.{frame, by_full, by_pending}
 use Rattle.words_rule.specs.Remembered.{Remembered}
 use Rattle.words_rule.proofs.Remembering.{remembered_still}
-use Rattle.words_rule.specs.FreeSlots.{FreeSlots}
+use Rattle.free_list.specs.FreeSlots.{FreeSlots}
 
 abbrev pub handed : View → Hand → View
 handed v h = record v { hand = h }
@@ -89,7 +90,7 @@ idle_of u t none_has = (is_none u.hand.taken refl (λ x its. none_has (t.taken (
     is_none None e refuse = e
     is_none (Some x) e refuse = absurd (refuse x e)
 
-module _ {S : Type 0} (board : S → List (std.Option Held)) (free_slots : S → FreeSlots) (memo : S → List ℕ) where
+module _ {S : Type 0} (board : S → List (std.Option Cell)) (free_slots : S → FreeSlots) (memo : S → List ℕ) where
   abbrev PartsOf : Shape → Words → (ℕ → Option (Option (std.Option S))) → List View → Type 0
   PartsOf = Parts board free_slots memo
 

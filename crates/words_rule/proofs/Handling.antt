@@ -18,7 +18,7 @@ use Rattle.words_rule.specs.Dues.{slot_of, word_of, job_function, IsToDo, IsWork
 use Rattle.words_rule.specs.Hands.{level_of, Stands, HasLevel, Owns, IsLoose, Tables, taking, with_level, without_level, storing, pushing, loosening, freeing}
 use Rattle.words_rule.proofs.Lists.{each_set, set_at}
 use Rattle.words_rule.proofs.Jobs.{unknown_job, jobs_apart}
-use Rattle.words_rule.specs.FreeSlots.{FreeSlots}
+use Rattle.free_list.specs.FreeSlots.{FreeSlots}
 
 by_eq : {P : Type 0} (a b : ℕ) → (a ≡ b → P) → (a ≢ b → P) → P
 by_eq a b yes_it no_it = dite (ℕ_discrete a b) yes_it no_it

@@ -16,8 +16,8 @@ use Rattle.handle_count.specs.CountWords.{count_of, generation_of}
 use Rattle.node_store.specs.Contents.{IsSound, IsUsed}
 use Rattle.node_store.specs.Changes.{put_at}
 use Rattle.node_store.proofs.Rewriting.{put_at-same, put_at-other}
-use Rattle.words_rule.specs.FreeSlots.{FreeSlots}
-use Rattle.words_rule.specs.declared.view.Held.{Held}
+use Rattle.free_list.specs.FreeSlots.{FreeSlots}
+use Rattle.words_rule.specs.declared.cell.Cell.{Cell}
 use Rattle.words_rule.specs.declared.view.Hold.TheVariants.{Holding}
 use Rattle.words_rule.specs.declared.view.SlotCount.{SlotCount}
 use Rattle.words_rule.specs.declared.view.SlotGeneration.{SlotGeneration}
@@ -163,7 +163,7 @@ count_here s c l = ap (λ b. cond b (Some c) (noted_count l s)) (eq-eqb s s refl
 count_apart : (s c t : ℕ) (l : List SlotCount) → t ≢ s → noted_count (with_count s c l) t ≡ noted_count l t
 count_apart s c t l ne = ap (λ b. cond b (Some c) (noted_count l t)) (ne_eqb s t (λ e. ne (sym e)))
 
-module _ {S : Type 0} (board : S → List (std.Option Held)) (free_slots : S → FreeSlots) (memo : S → List ℕ) where
+module _ {S : Type 0} (board : S → List (std.Option Cell)) (free_slots : S → FreeSlots) (memo : S → List ℕ) where
   abbrev TheRule : State (std.Option S) View → Type 0
   TheRule = Rule board free_slots memo
 

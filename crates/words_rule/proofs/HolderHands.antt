@@ -11,9 +11,9 @@ use Rattle.atomic_table.proofs.Lists.{set_else, set_here}
 use Rattle.computed_cache.specs.Entries.{Kept, kept_at, places}
 use Rattle.node_store.specs.Contents.{Content, view_of}
 use Rattle.step_store.specs.Chains as steps
-use Rattle.words_rule.specs.FreeSlots.{FreeSlots}
+use Rattle.free_list.specs.FreeSlots.{FreeSlots}
+use Rattle.words_rule.specs.declared.cell.Cell.{Cell}
 use Rattle.words_rule.specs.declared.view.Hand.{Hand}
-use Rattle.words_rule.specs.declared.view.Held.{Held}
 use Rattle.words_rule.specs.declared.view.Hold.TheVariants.{Holding}
 use Rattle.words_rule.specs.declared.view.Job.{Job}
 use Rattle.words_rule.specs.declared.view.View.{View}
@@ -49,7 +49,7 @@ once_by_index (x ∷ xs) one = (
 pub knows_handed : (v : View) (h : Hand) → KnowsAll v → KnowsAll (handed v h)
 knows_handed v h k = record { sound = k.sound; long = k.long; noted = k.noted; beyond = k.beyond; aged = k.aged; zeros = k.zeros; own = k.own; once = k.once }
 
-module _ {S : Type 0} (board : S → List (std.Option Held)) (free_slots : S → FreeSlots) (memo : S → List ℕ) where
+module _ {S : Type 0} (board : S → List (std.Option Cell)) (free_slots : S → FreeSlots) (memo : S → List ℕ) where
   abbrev TheRule : State (std.Option S) View → Type 0
   TheRule = Rule board free_slots memo
 

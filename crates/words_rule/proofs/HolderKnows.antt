@@ -16,7 +16,7 @@ use Rattle.function_laws.specs.Kinds.{Denoted}
 use Rattle.node_store.specs.Contents.{Content, view_of}
 use Rattle.node_store.specs.Changes.{CanExchange, CanRewrite}
 use Rattle.node_store.specs.Views.{Is, IsBeyond}
-use Rattle.words_rule.specs.declared.view.Held.{Held}
+use Rattle.words_rule.specs.declared.cell.Cell.{Cell}
 use Rattle.words_rule.specs.declared.view.Hold.TheVariants.{Holding}
 use Rattle.words_rule.specs.declared.view.View.{View}
 use Rattle.words_rule.specs.Views.{orders_of}
@@ -31,7 +31,7 @@ use Rattle.words_rule.specs.HeldContents.{KnowsAll, held_bits, held_content, or_
 use Rattle.words_rule.proofs.Decoding.{Beyond, decodes}
 use Rattle.words_rule.proofs.Meeting.{kind_of, noted_true, seen_true}
 use Rattle.words_rule.proofs.Stepping.{shape_is}
-use Rattle.words_rule.specs.FreeSlots.{FreeSlots}
+use Rattle.free_list.specs.FreeSlots.{FreeSlots}
 
 -- with these counts, generations and pins
 abbrev pub counted : Content → (ℕ → ℕ) → (ℕ → ℕ) → (ℕ → Bool) → Content
@@ -66,7 +66,7 @@ module _ (w : Content) (count generation : ℕ → ℕ) (pinned : ℕ → Bool) 
   pub can_exchange : (order : Order) (level : ℕ) → CanExchange (counted w count generation pinned) order level → CanExchange w order level
   can_exchange order level c = record { within = c.within; half = c.half; lacks = c.lacks }
 
-module _ {S : Type 0} (board : S → List (std.Option Held)) (free_slots : S → FreeSlots) (memo : S → List ℕ) where
+module _ {S : Type 0} (board : S → List (std.Option Cell)) (free_slots : S → FreeSlots) (memo : S → List ℕ) where
   module _ (z : Shape) (ws : Words) (home : ℕ → Option (Option (std.Option S))) (vs : List View) (r : Parts board free_slots memo z ws home vs) (id : ℕ) (v : View) (at : get_elem? vs id ≡ some v) where
     abbrev pub w : Content
     w = content_of z ws.node r.orders r.function r.half

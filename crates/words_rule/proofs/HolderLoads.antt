@@ -11,8 +11,8 @@ use Rattle.edge_bits.specs.declared.words.Word.{Word}
 use Rattle.edge_bits.specs.Words.{unpack_of}
 use Rattle.step_store.specs.Chains as steps
 use Rattle.step_store.proofs.Chaining.{once_short}
+use Rattle.words_rule.specs.declared.cell.Cell.{Cell}
 use Rattle.words_rule.specs.declared.view.Hand.{Hand}
-use Rattle.words_rule.specs.declared.view.Held.{Held}
 use Rattle.words_rule.specs.declared.view.Hold.TheVariants.{Holding}
 use Rattle.words_rule.specs.declared.view.View.{View}
 use Rattle.words_rule.specs.declared.view.Walk.{Walk}
@@ -32,13 +32,13 @@ use Rattle.words_rule.proofs.NodeLoads.{lists_back}
 use Rattle.words_rule.proofs.Rewrites.{nobody_shares}
 use Rattle.words_rule.proofs.Stepping.{shape_is}
 use Rattle.words_rule.proofs.Tabling.{stays}
-use Rattle.words_rule.specs.FreeSlots.{FreeSlots}
+use Rattle.free_list.specs.FreeSlots.{FreeSlots}
 
 lists_on : (l : List ℕ) (s : ℕ) → Lists l s → steps.Lists l s
 lists_on [] s h = h
 lists_on (x ∷ xs) s h = ⊎_elim (λ e. inl e) (λ later. inr (lists_on xs s later)) h
 
-module _ {S : Type 0} (board : S → List (std.Option Held)) (free_slots : S → FreeSlots) (memo : S → List ℕ) where
+module _ {S : Type 0} (board : S → List (std.Option Cell)) (free_slots : S → FreeSlots) (memo : S → List ℕ) where
   abbrev TheRule : State (std.Option S) View → Type 0
   TheRule = Rule board free_slots memo
 

@@ -19,6 +19,7 @@ use Rattle.function_laws.specs.Sizes.{Orders}
 use Rattle.function_laws.specs.EntryOrders.{orders_after}
 use Rattle.function_laws.specs.SessionEntries.{Each}
 use Rattle.function_laws.specs.Tables.{Table, same_name}
+use Rattle.words_rule.specs.declared.cell.Cell.{Cell}
 use Rattle.words_rule.specs.declared.view.Held.{Held}
 use Rattle.words_rule.specs.declared.view.Row.{Row}
 use Rattle.words_rule.specs.declared.view.Change.{Change}
@@ -186,7 +187,7 @@ ordered_draws now told vs id v w x o at shares draws plain orders either one = r
             (λ apart. nobody i u (set_else vs id i w apart ∙ there) holding)
 
 -- the board after a draw
-pub board_draws : {S : Type 0} (board : S → List (std.Option Held)) (turn : ℕ) (home : Option (Option (std.Option S))) (ds : List Draws) (t u : Table) (cells : List (std.Option Held)) (id : ℕ) (d w : Draws) (change : Change)
+pub board_draws : {S : Type 0} (board : S → List (std.Option Cell)) (turn : ℕ) (home : Option (Option (std.Option S))) (ds : List Draws) (t u : Table) (cells : List (std.Option Held)) (id : ℕ) (d w : Draws) (change : Change)
     → Board board turn home ds t cells → get_elem? ds id ≡ some d → w.holds ≡ d.holds → w.cells ≡ cells_after change d.cells
     → (d.holds ≡ false → LeavesBoard change × (u.cells ≡ t.cells)) → (d.holds ≡ true → (u.cells ≡ cell_in w.cells) × (turn ≢ 0))
     → ((i : ℕ) (e : Draws) → get_elem? ds i ≡ some e → e.holds ≡ true → d.holds ≡ true → i ≡ id)

@@ -12,6 +12,7 @@ use Rattle.function_laws.specs.Kinds.{Denoted}
 use Rattle.function_laws.specs.SessionEntries.{Each}
 use Rattle.function_laws.specs.EntryOrders.{opening_orders, orders_from}
 use Rattle.words_rule.specs.Ordered.{KnowsOrders}
+use Rattle.words_rule.specs.declared.cell.Cell.{Cell}
 use Rattle.words_rule.specs.declared.view.Held.{Held}
 use Rattle.words_rule.specs.declared.view.SeenWord.{SeenWord}
 use Rattle.words_rule.specs.declared.view.Hold.TheVariants.{Holding}
@@ -27,7 +28,7 @@ use Rattle.words_rule.proofs.Lists.{each_set, set_at}
 use Rattle.words_rule.proofs.Draws.{by_full, by_pending}
 use Rattle.words_rule.proofs.Rewrites.{parts_known}
 use Rattle.words_rule.proofs.Storing.{edge_at}
-use Rattle.words_rule.specs.FreeSlots.{FreeSlots}
+use Rattle.free_list.specs.FreeSlots.{FreeSlots}
 
 -- a view with these notes
 abbrev pub with_notes : View → List SeenWord → List Held → View
@@ -103,7 +104,7 @@ pub all_both : (function : ℕ → std.Option Denoted) (l m : List ℕ) → AllH
 all_both function [] m a b = b
 all_both function (s ∷ l) m a b = (a.0, all_both function l m a.1 b)
 
-module _ {S : Type 0} (board : S → List (std.Option Held)) (free_slots : S → FreeSlots) (memo : S → List ℕ) where
+module _ {S : Type 0} (board : S → List (std.Option Cell)) (free_slots : S → FreeSlots) (memo : S → List ℕ) where
   abbrev PartsOf : Shape → Words → (ℕ → Option (Option (std.Option S))) → List View → Type 0
   PartsOf = Parts board free_slots memo
 

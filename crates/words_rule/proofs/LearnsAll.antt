@@ -16,6 +16,7 @@ use Rattle.function_laws.specs.Sizes.{Orders}
 use Rattle.function_laws.specs.EntryOrders.{opening_orders, orders_from}
 use Rattle.handle_count.specs.CountWords.{count_of, generation_of}
 use Rattle.node_store.specs.Contents.{Content, IsSound}
+use Rattle.words_rule.specs.declared.cell.Cell.{Cell}
 use Rattle.words_rule.specs.declared.view.Held.{Held}
 use Rattle.words_rule.specs.declared.view.Hold.TheVariants.{Holding}
 use Rattle.words_rule.specs.declared.view.SeenWord.{SeenWord}
@@ -50,7 +51,7 @@ use Rattle.words_rule.proofs.Storing.{edge_at}
 use Rattle.words_rule.proofs.Tabling.{set_set}
 use Rattle.words_rule.proofs.Tallying.{counts_small}
 use Rattle.words_rule.proofs.Working.{parts_work}
-use Rattle.words_rule.specs.FreeSlots.{FreeSlots}
+use Rattle.free_list.specs.FreeSlots.{FreeSlots}
 
 -- what is noted of these slots
 
@@ -217,7 +218,7 @@ sound_counted w c g p s few uncounted unpinned = record {
   unpinned = unpinned;
 }
 
-module _ {S : Type 0} (board : S → List (std.Option Held)) (free_slots : S → FreeSlots) (memo : S → List ℕ) where
+module _ {S : Type 0} (board : S → List (std.Option Cell)) (free_slots : S → FreeSlots) (memo : S → List ℕ) where
   abbrev PartsOf : Shape → Words → (ℕ → Option (Option (std.Option S))) → List View → Type 0
   PartsOf = Parts board free_slots memo
 

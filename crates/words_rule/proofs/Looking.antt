@@ -15,7 +15,7 @@ use Rattle.edge_bits.specs.declared.words.Word.TheVariants.{Inner}
 use Rattle.edge_bits.specs.Words.{unpack_of}
 use Rattle.function_laws.specs.EntryOrders.{opening_orders, orders_from}
 use Rattle.words_rule.specs.Ordered.{KnowsOrders}
-use Rattle.words_rule.specs.declared.view.Held.{Held}
+use Rattle.words_rule.specs.declared.cell.Cell.{Cell}
 use Rattle.words_rule.specs.declared.view.SeenWord.{SeenWord}
 use Rattle.words_rule.specs.declared.view.Hold.TheVariants.{Holding}
 use Rattle.words_rule.specs.declared.view.Walk.{Walk}
@@ -35,7 +35,7 @@ use Rattle.words_rule.proofs.Handed.{parts_no_node}
 use Rattle.words_rule.proofs.Rewrites.{parts_known}
 use Rattle.words_rule.proofs.Stepping.{shape_is}
 use Rattle.words_rule.proofs.Tabling.{stays}
-use Rattle.words_rule.specs.FreeSlots.{FreeSlots}
+use Rattle.free_list.specs.FreeSlots.{FreeSlots}
 
 abbrev pub noting_word : View → SeenWord → View
 noting_word v note = record v { known = record v.known { words = note ∷ v.known.words } }
@@ -44,7 +44,7 @@ noting_word v note = record v { known = record v.known { words = note ∷ v.know
 abbrev pub AllElse : View → List ℕ → ℕ → Type 0
 AllElse v rest bits = (s : ℕ) → Lists rest s → (k b : ℕ) × (get_elem? v.known.words k ≡ some (record { slot = s; bits = b })) × (b ≢ bits)
 
-module _ {S : Type 0} (board : S → List (std.Option Held)) (free_slots : S → FreeSlots) (memo : S → List ℕ) where
+module _ {S : Type 0} (board : S → List (std.Option Cell)) (free_slots : S → FreeSlots) (memo : S → List ℕ) where
   abbrev PartsOf : Shape → Words → (ℕ → Option (Option (std.Option S))) → List View → Type 0
   PartsOf = Parts board free_slots memo
 

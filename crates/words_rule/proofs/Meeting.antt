@@ -20,6 +20,7 @@ use Rattle.node_store.specs.ViewLaws.{Is-from}
 use Rattle.node_store.specs.Views as views
 use Rattle.node_store.specs.Views.{IsBeyond, Is, IsFunction, Denotes, Opens, values_at}
 use Rattle.step_store.specs.Knowing.{Knowledge, Meets}
+use Rattle.words_rule.specs.declared.cell.Cell.{Cell}
 use Rattle.words_rule.specs.declared.view.Held.{Held}
 use Rattle.words_rule.specs.declared.view.SeenWord.{SeenWord}
 use Rattle.words_rule.specs.declared.view.Hold.TheVariants.{Holding}
@@ -38,7 +39,7 @@ use Rattle.words_rule.proofs.Handed.{settled_by}
 use Rattle.words_rule.proofs.Decoding.{Beyond, decodes}
 use Rattle.words_rule.proofs.Opened.{at_edge, opens_word}
 use Rattle.words_rule.proofs.Narrowing.{Narrow, Has, Known, is_up, is_down, values_same, opens_down}
-use Rattle.words_rule.specs.FreeSlots.{FreeSlots}
+use Rattle.free_list.specs.FreeSlots.{FreeSlots}
 
 some_bits : (a b : ℕ) → Some a ≡ Some b → a ≡ b
 some_bits a b e = cc
@@ -101,7 +102,7 @@ abbrev pub AreKnown : views.View → Word → Type 0
 AreKnown k (Inner node) = Has k node.hi × Has k node.lo.index
 AreKnown k (Leaf x) = Unit {0}
 
-module _ {S : Type 0} (board : S → List (std.Option Held)) (free_slots : S → FreeSlots) (memo : S → List ℕ) where
+module _ {S : Type 0} (board : S → List (std.Option Cell)) (free_slots : S → FreeSlots) (memo : S → List ℕ) where
   abbrev PartsOf : Shape → Words → (ℕ → Option (Option (std.Option S))) → List View → Type 0
   PartsOf = Parts board free_slots memo
 

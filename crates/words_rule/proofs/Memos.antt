@@ -17,6 +17,7 @@ use Rattle.node_store.specs.Contents.{Content, top_of, top_of_word, view_of}
 use Rattle.node_store.proofs.MemoLaws.{Carries}
 use Rattle.step_store.specs.Knowing as knowing
 use Rattle.step_store.specs.Knowing.{Knowledge, Learns, Stands}
+use Rattle.words_rule.specs.declared.cell.Cell.{Cell}
 use Rattle.words_rule.specs.declared.view.Held.{Held}
 use Rattle.words_rule.specs.declared.view.Hand.{Hand}
 use Rattle.words_rule.specs.declared.view.Share.TheVariants as shares
@@ -41,7 +42,7 @@ use Rattle.words_rule.proofs.Meeting.{content_true, narrow, word_stands}
 use Rattle.words_rule.proofs.Remembering.{entries_carried, remembered_taken, remembered_given}
 use Rattle.words_rule.proofs.Standing.{stands_more}
 use Rattle.words_rule.proofs.Tabling.{after_word, set_set, stays}
-use Rattle.words_rule.specs.FreeSlots.{FreeSlots}
+use Rattle.free_list.specs.FreeSlots.{FreeSlots}
 
 never : (word : Word) → ◌≡◌ {A = std.Option Word} None (Some word) → ⊥
 never word e = cc
@@ -90,7 +91,7 @@ stands_handed k h s = record {
   never_wants = s.never_wants;
 }
 
-module _ {S : Type 0} (board : S → List (std.Option Held)) (free_slots : S → FreeSlots) (memo : S → List ℕ) where
+module _ {S : Type 0} (board : S → List (std.Option Cell)) (free_slots : S → FreeSlots) (memo : S → List ℕ) where
   abbrev PartsOf : Shape → Words → (ℕ → Option (Option (std.Option S))) → List View → Type 0
   PartsOf = Parts board free_slots memo
 

@@ -1,7 +1,7 @@
 -- The words of a new table, as they are written.
 use Rattle.std.proofs.Common.{◌≡◌, ◌⊎◌, inl, inr, ℕ, suc, ◌+◌, ◌-◌, ◌*◌, ◌^◌, ◌<◌, ◌≤◌, Bool, true, false, cond, List, [], ◌∷◌, ◌++◌, length, set, length-set, get_or-set_same, get_or-set_other, Some, None, refl, sym, ap, ◌∙◌, subst, arith}
 use Rattle.std.specs.Prelude as std
-use Rattle.std.specs.Prelude.{nat_lt, slice_index, map}
+use Rattle.std.specs.Prelude.{nat_lt, slice_index, map, replicate}
 use mathlib.Core.Option.{some}
 use Rattle.std.specs.List.{range_with_len}
 use Rattle.std.proofs.Math.Nat.{pow-suc}
@@ -13,9 +13,9 @@ use Rattle.function_laws.specs.EntryOrders.{opening_orders}
 use Rattle.function_laws.specs.SiftedOrders.{place_of}
 use Rattle.handle_count.specs.CountWords.{count_of}
 use Rattle.node_store.specs.Changes.{put_at}
-use Rattle.words_rule.specs.declared.view.Held.{Held}
+use Rattle.words_rule.specs.declared.cell.Cell.{Cell}
 use Rattle.words_rule.specs.declared.view.Opening.{Opening}
-use Rattle.words_rule.specs.Views.{cell_in, sizes_for}
+use Rattle.words_rule.specs.Views.{sizes_for}
 use Rattle.words_rule.specs.Layout.{Shape, Words, area, count_at, entry_at, item_at, level_entry, head_at, head_bits, head_of, heads, next_at, node_at, order_at, places, word_count, words_of}
 use Rattle.words_rule.specs.Chains.{Chains}
 use Rattle.words_rule.specs.Openings.{AreFree, first_view, opening_on, opening_word, shape_of}
@@ -26,7 +26,7 @@ use Rattle.words_rule.proofs.FirstChains.{all_on, first_chains, next_chains, on_
 use Rattle.words_rule.proofs.Layouts.{here_order, set_head, set_next, set_node}
 use Rattle.words_rule.proofs.Opening.{place_of-range, slice-range}
 use Rattle.words_rule.proofs.Opens.{starts, word_behind}
-use Rattle.words_rule.specs.FreeSlots.{FreeSlots}
+use Rattle.free_list.specs.FreeSlots.{FreeSlots}
 
 -- words of an area that are all 0
 pub area_zero : (at : ℕ → ℕ) (len : ℕ) (ws : List ℕ) → ((k : ℕ) → k < len → slice_index ws (at k) ≡ 0) → (k : ℕ) → area at len ws k ≡ 0
@@ -220,12 +220,12 @@ module _ (z : Shape) where
   pub heads_empty : (ws nodes : List ℕ) → IsEmpty z ws → HasNodes z ws nodes → (h : ℕ) → (words_of z nodes).head h ≡ 0
   heads_empty ws nodes empty written h = ap (λ (x : Words). x.head h) written.rest ∙ area_zero (head_at z) (heads z) ws (λ k lt. empty (head_at z k) (inr (omega arith))) h
 
-module _ {S : Type 0} (board : S → List (std.Option Held)) (free_slots : S → FreeSlots) (memo : S → List ℕ) where
+module _ {S : Type 0} (board : S → List (std.Option Cell)) (free_slots : S → FreeSlots) (memo : S → List ℕ) where
   -- with an empty board and a list of the free slots it is a table under the rule
   pub begins : (key : Opening) (ws : List ℕ) (at_board at_free at_memo : S) → key.vars ≤ 16384 → key.elements ≤ 16384 → key.slots ≤ 8388607 → 5 + key.vars ≤ key.slots → length ws ≡ word_count (shape_of key) → AreFirst (shape_of key) (words_of (shape_of key) ws)
-      → length (board at_board) ≡ 256 → cell_in (board at_board) ≡ (λ (i : ℕ). None) → AreFree (shape_of key) (free_slots at_free).slots → (free_slots at_free).room ≡ key.slots → 0 < answer_places (memo at_memo) → ((i : ℕ) → kept_at (memo at_memo) i ≡ None)
+      → board at_board ≡ replicate 256 None → AreFree (shape_of key) (free_slots at_free).slots → (free_slots at_free).room ≡ key.slots → 0 < answer_places (memo at_memo) → ((i : ℕ) → kept_at (memo at_memo) i ≡ None)
       → Rule board free_slots memo (record { words = ws; homes = map some (Some at_board ∷ Some at_free ∷ Some at_memo ∷ []); views = first_view key ∷ [] })
-  begins key ws at_board at_free at_memo vars elements slots room long first cells empty free roomy some_places blank = starts board free_slots memo key ws (map some (Some at_board ∷ Some at_free ∷ Some at_memo ∷ [])) long refl (record {
+  begins key ws at_board at_free at_memo vars elements slots room long first empty free roomy some_places blank = starts board free_slots memo key ws (map some (Some at_board ∷ Some at_free ∷ Some at_memo ∷ [])) long refl (record {
     few = vars;
     few_elements = elements;
     room = room;
@@ -238,7 +238,6 @@ module _ {S : Type 0} (board : S → List (std.Option Held)) (free_slots : S →
     count = first.count;
     at_board = at_board;
     board_home = refl;
-    cells = cells;
     empty_cells = empty;
     at_free = at_free;
     free_home = refl;

@@ -14,6 +14,7 @@ use Rattle.node_store.specs.ViewLaws.{Kept-refl}
 use Rattle.step_store.specs.Chains as steps
 use Rattle.step_store.specs.Knowing as knowing
 use Rattle.step_store.specs.Knowing.{Knowledge, Learns, Meets, IsMet, Stands}
+use Rattle.words_rule.specs.declared.cell.Cell.{Cell}
 use Rattle.words_rule.specs.declared.view.Held.{Held}
 use Rattle.words_rule.specs.declared.view.Share.TheVariants as shares
 use Rattle.words_rule.specs.declared.view.Walk.{Walk}
@@ -33,7 +34,7 @@ use Rattle.words_rule.proofs.Handed.{hand_at}
 use Rattle.words_rule.proofs.Meeting.{content_true, word_stands, meets, AreKnown}
 use Rattle.words_rule.proofs.Noticing.{learns_trans, noticing, noticed_parts, noticed_orders, noticed_here, noticed_has, noticed_learns}
 use Rattle.words_rule.proofs.Standing.{stands_more}
-use Rattle.words_rule.specs.FreeSlots.{FreeSlots}
+use Rattle.free_list.specs.FreeSlots.{FreeSlots}
 
 never : (word : Word) → ◌≡◌ {A = std.Option Word} None (Some word) → ⊥
 never word e = cc
@@ -56,7 +57,7 @@ walk_in None n e = cc
 pub learns_refl : (k : Knowledge) → Learns k k
 learns_refl k = record { kept = Kept-refl k.view; room = refl; words = λ s b is. is; heads = refl }
 
-module _ {S : Type 0} (board : S → List (std.Option Held)) (free_slots : S → FreeSlots) (memo : S → List ℕ) where
+module _ {S : Type 0} (board : S → List (std.Option Cell)) (free_slots : S → FreeSlots) (memo : S → List ℕ) where
   abbrev PartsOf : Shape → Words → (ℕ → Option (Option (std.Option S))) → List View → Type 0
   PartsOf = Parts board free_slots memo
 

@@ -20,6 +20,7 @@ use Rattle.node_store.specs.ViewLaws.{Denotes-node}
 use Rattle.node_store.proofs.Parting.{same_kind}
 use Rattle.step_store.specs.declared.hand.Taken.{Taken}
 use Rattle.step_store.specs.Knowing.{Knowledge, HasWord}
+use Rattle.words_rule.specs.declared.cell.Cell.{Cell}
 use Rattle.words_rule.specs.declared.view.Held.{Held}
 use Rattle.words_rule.specs.declared.view.SeenWord.{SeenWord}
 use Rattle.words_rule.specs.declared.view.Share.TheVariants as shares
@@ -49,7 +50,7 @@ use Rattle.words_rule.proofs.Meeting.{no_hold, word_stands, content_true, narrow
 use Rattle.words_rule.proofs.Working.{parts_work}
 use Rattle.words_rule.proofs.Standing.{stands_more}
 use Rattle.words_rule.proofs.HandClauses.{some_back}
-use Rattle.words_rule.specs.FreeSlots.{FreeSlots}
+use Rattle.free_list.specs.FreeSlots.{FreeSlots}
 
 never : (word : Word) → ◌≡◌ {A = std.Option Word} None (Some word) → ⊥
 never word e = cc
@@ -60,7 +61,7 @@ some_word a b e = cc
 some_denoted : (a b : Denoted) → Some a ≡ Some b → a ≡ b
 some_denoted a b e = cc
 
-module _ {S : Type 0} (board : S → List (std.Option Held)) (free_slots : S → FreeSlots) (memo : S → List ℕ) where
+module _ {S : Type 0} (board : S → List (std.Option Cell)) (free_slots : S → FreeSlots) (memo : S → List ℕ) where
   abbrev PartsOf : Shape → Words → (ℕ → Option (Option (std.Option S))) → List View → Type 0
   PartsOf = Parts board free_slots memo
 

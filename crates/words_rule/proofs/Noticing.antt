@@ -9,6 +9,7 @@ use Rattle.function_laws.specs.Kinds.{Denoted}
 use Rattle.node_store.specs.Contents.{Content, top_of, top_of_word}
 use Rattle.node_store.specs.ViewLaws.{Kept-trans}
 use Rattle.step_store.specs.Knowing.{Knowledge, Learns}
+use Rattle.words_rule.specs.declared.cell.Cell.{Cell}
 use Rattle.words_rule.specs.declared.view.Held.{Held}
 use Rattle.words_rule.specs.declared.view.Share.TheVariants as shares
 use Rattle.words_rule.specs.declared.view.View.{View}
@@ -22,7 +23,7 @@ use Rattle.words_rule.proofs.Stepping.{shape_is}
 use Rattle.words_rule.proofs.Storing.{noting_slot, edge_at, parts_notes}
 use Rattle.words_rule.proofs.Narrowing.{Has}
 use Rattle.words_rule.proofs.Meeting.{word_stands, content_true, decoded, some_denoted}
-use Rattle.words_rule.specs.FreeSlots.{FreeSlots}
+use Rattle.free_list.specs.FreeSlots.{FreeSlots}
 
 never : (word : Word) → ◌≡◌ {A = std.Option Word} None (Some word) → ⊥
 never word e = cc
@@ -35,7 +36,7 @@ learns_trans x y = record {
   heads = y.heads ∙ x.heads;
 }
 
-module _ {S : Type 0} (board : S → List (std.Option Held)) (free_slots : S → FreeSlots) (memo : S → List ℕ) where
+module _ {S : Type 0} (board : S → List (std.Option Cell)) (free_slots : S → FreeSlots) (memo : S → List ℕ) where
   abbrev PartsOf : Shape → Words → (ℕ → Option (Option (std.Option S))) → List View → Type 0
   PartsOf = Parts board free_slots memo
 

@@ -1,7 +1,7 @@
 -- A new table has the rule.
 use Rattle.std.proofs.Common.{◌≡◌, ◌≢◌, ◌⊎◌, inl, inr, ℕ, zero, suc, ◌+◌, subst, ◌*◌, ◌^◌, ◌<◌, ◌≤◌, true, false, cond, pos, List, [], ◌∷◌, length, refl, ap, sym, ◌∙◌, subst, arith, true≢false}
 use Rattle.std.specs.Prelude as std
-use Rattle.std.specs.Prelude.{Some, None}
+use Rattle.std.specs.Prelude.{Some, None, replicate}
 use Rattle.std.proofs.lemmas.Bool.{cases_lt, lt-ltb, le-ltb}
 use Rattle.std.proofs.lemmas.List.FromFn.{length-range_with_len}
 use mathlib.Core.Option.{Option, none, some, some-injective, some-ne-none}
@@ -18,6 +18,7 @@ use Rattle.node_store.specs.Contents.{Content, IsSound, projection_node}
 use Rattle.words_rule.specs.Ordered.{KnowsOrders}
 use Rattle.words_rule.specs.Generations.{IsOfSlot}
 use Rattle.words_rule.specs.Holders.{IsHolder}
+use Rattle.words_rule.specs.declared.cell.Cell.{Cell}
 use Rattle.words_rule.specs.declared.view.Held.{Held}
 use Rattle.words_rule.specs.declared.view.Link.{Link}
 use Rattle.words_rule.specs.declared.view.Walk.{Walk}
@@ -27,7 +28,7 @@ use Rattle.words_rule.specs.declared.view.Draws.{Draws}
 use Rattle.words_rule.specs.declared.view.View.{View}
 use Rattle.words_rule.specs.declared.view.Opening.{Opening}
 use Rattle.words_rule.specs.declared.view.Hold.TheVariants.{Holding}
-use Rattle.words_rule.specs.Views.{sizes_for, cell_in, orders_of, told_orders}
+use Rattle.words_rule.specs.Views.{sizes_for, cell_in, orders_of, shown, told_orders}
 use Rattle.words_rule.specs.Layout.{Shape, Words, levels, heads, head_of, word_count, words_of, content_of}
 use Rattle.words_rule.specs.Journal.{Fits}
 use Rattle.words_rule.specs.Phase.{Phase, footing_of, hold, share}
@@ -44,9 +45,18 @@ use Rattle.words_rule.proofs.Phases.{phase_starts}
 use Rattle.words_rule.proofs.Opening.{at_high, opening_sound, word_high}
 use Rattle.function_laws.specs.Kinds.{BddFunction}
 use Rattle.function_laws.specs.Values.{projection}
-use Rattle.words_rule.specs.FreeSlots.{FreeSlots}
+use Rattle.free_list.specs.FreeSlots.{FreeSlots}
 
 -- an empty board names no slot
+none_in : (n i : ℕ) → cell_in (replicate n None) i ≡ None
+none_in zero i = refl
+none_in (suc n) zero = refl
+none_in (suc n) (suc i) = none_in n i
+
+none_shown : (n : ℕ) → shown (replicate n None) ≡ replicate n None
+none_shown zero = refl
+none_shown (suc n) = ap (λ (l : List (std.Option Cell)). None ∷ l) (none_shown n)
+
 none_counted : (k : ℕ) (cells : List (std.Option Held)) → ((i : ℕ) → cell_in cells i ≡ None) → cells_count k cells ≡ 0
 none_counted k [] none_there = refl
 none_counted k (None ∷ cells) none_there = none_counted k cells (λ i. none_there (suc i))
@@ -93,15 +103,15 @@ used_opening_on n (suc (suc (suc (suc (suc v))))) word le is = elim (cases_lt v 
   | inr le' ↦ absurd (no_some word (sym (ap (λ b. cond b (Some (Inner (projection_node v))) None) (le-ltb v n le')) ∙ is))
 ]
 
-module _ {S : Type 0} (board : S → List (std.Option Held)) (free_slots : S → FreeSlots) (memo : S → List ℕ) where
+module _ {S : Type 0} (board : S → List (std.Option Cell)) (free_slots : S → FreeSlots) (memo : S → List ℕ) where
   pub opens : (key : Opening) (ws : Words) (home : ℕ → Option (Option (std.Option S))) → IsNewTable board free_slots memo (shape_of key) ws home → Parts board free_slots memo (shape_of key) ws home (first_view key ∷ [])
   opens key ws home new =
       let z = shape_of key in
       let n : ℕ = key.vars in let m : ℕ = key.elements in
       let v = first_view key in
       let start : Sizes = sizes_for n m in
-      let cells = board new.at_board in
-      let empty : (i : ℕ) → cell_in cells i ≡ None = λ i. ap (λ (f : ℕ → std.Option Function). f i) new.empty_cells in
+      let cells : List (std.Option Held) = replicate 256 None in
+      let empty : (i : ℕ) → cell_in cells i ≡ None = none_in 256 in
       let content : content_of z ws.node (opening_orders start) (opening_function n) None ≡ opening_content n m key.slots = λ t. record (opening_content n m key.slots) { word = λ s. new.node s t } in
       record {
         log = [];
@@ -141,13 +151,13 @@ module _ {S : Type 0} (board : S → List (std.Option Held)) (free_slots : S →
         counts = record {
           counted = λ k. let a = new.count k in let b = none_counted k cells empty in omega (arith, a, b);
           most = omega arith;
-          few_cells = new.cells;
+          few_cells = refl;
           small = λ id t at. only (tally_of v) id t at (λ _ (t : Tally). (size t ≤ t.sessions * 2 ^ 25) × (t.sessions ≤ t.parts)) (omega arith, omega arith);
           pinned = λ id t at. only (tally_of v) id t at (λ _ (t : Tally). (k : ℕ) → times k t.counts.pins ≤ t.sessions) (λ k. omega arith);
           still = λ id t at. only (tally_of v) id t at (λ _ (t : Tally). (k : ℕ) → 0 < times k t.counts.zeros → count_of (ws.count k) ≡ refs k t) (λ k zeros. absurd (omega (arith, zeros)));
         };
         kept = record { each = λ id t at. only (tally_of v) id t at (λ _ (t : Tally). KeepsTally z (opening_function n) t) (record { rows = tt; raised = tt; owed = tt }); fixed = λ u lt. (let e : suc (suc (suc (suc (suc u)))) ≡ 5 + u = omega arith in subst (λ (t : ℕ). opening_function n t ≡ Some (BddFunction (projection u))) e (at_high n u lt)); cells_kept = none_kept z (opening_function n) cells empty };
-        on_board = record { are = sym new.empty_cells; home_is = λ _. (new.at_board, new.board_home, refl); held = λ id d at. only v.draws id d at (λ _ (d : Draws). d.holds ≡ true → d.cells ≡ cells) (λ h. absurd (true≢false (sym h))) };
+        on_board = record { are = λ k i. sym (empty i) k; home_is = λ _. (new.at_board, new.board_home, new.empty_cells ∙ sym (none_shown 256)); held = λ id d at. only v.draws id d at (λ _ (d : Draws). d.holds ≡ true → d.cells ≡ cells) (λ h. absurd (true≢false (sym h))) };
         positions = record { variables_long = length-range_with_len 0 n; elements_long = length-range_with_len 0 m; at = λ p lt none_due. new.order p lt };
         ordered = record {
           settled = λ _. refl;

@@ -15,6 +15,7 @@ use Rattle.node_store.specs.Views.{IsVariable, levels}
 use Rattle.node_store.proofs.Ordering.{order_at, level-own, orders_are}
 use Rattle.function_laws.proofs.LackingParts.{own}
 use Rattle.function_laws.specs.SiftedOrders.{place_of}
+use Rattle.words_rule.specs.declared.cell.Cell.{Cell}
 use Rattle.words_rule.specs.declared.view.Held.{Held}
 use Rattle.words_rule.specs.declared.view.Share.TheVariants as shares
 use Rattle.words_rule.specs.declared.view.View.{View}
@@ -29,9 +30,9 @@ use Rattle.words_rule.proofs.Rewrites.{order_by_full}
 use Rattle.words_rule.proofs.Narrowing.{variable_up, level_same}
 use Rattle.words_rule.proofs.Meeting.{narrow}
 use Rattle.words_rule.proofs.Opened.{within_levels}
-use Rattle.words_rule.specs.FreeSlots.{FreeSlots}
+use Rattle.free_list.specs.FreeSlots.{FreeSlots}
 
-module _ {S : Type 0} (board : S → List (std.Option Held)) (free_slots : S → FreeSlots) (memo : S → List ℕ) where
+module _ {S : Type 0} (board : S → List (std.Option Cell)) (free_slots : S → FreeSlots) (memo : S → List ℕ) where
   module _ (z : Shape) (ws : Words) (home : ℕ → Option (Option (std.Option S))) (vs : List View) (r : Parts board free_slots memo z ws home vs) (id : ℕ) (v : View) (at : get_elem? vs id ≡ some v)
       (live : v.draws.live ≡ std.true) (share : v.shares.op ≡ shares.Held) (o : Own) where
     -- beside an operation share no order word is due

@@ -12,7 +12,7 @@ use Rattle.function_laws.specs.Sizes.{Orders, in_order}
 use Rattle.node_store.specs.Contents.{Content}
 use Rattle.node_store.specs.Changes.{CanExchange, exchanged, put_at}
 use Rattle.node_store.proofs.ExchangeSound.{exchanged_sound}
-use Rattle.words_rule.specs.declared.view.Held.{Held}
+use Rattle.words_rule.specs.declared.cell.Cell.{Cell}
 use Rattle.words_rule.specs.declared.view.Hold.TheVariants.{Holding}
 use Rattle.words_rule.specs.declared.view.View.{View}
 use Rattle.words_rule.specs.Exchanges.{dues_of, position}
@@ -29,7 +29,7 @@ use Rattle.words_rule.proofs.OrderWords.{next_position, position_below, position
 use Rattle.words_rule.proofs.Rewrites.{order_by_full, parts_exchange, parts_exchanged}
 use Rattle.words_rule.proofs.Stepping.{shape_is}
 use Rattle.words_rule.proofs.Tabling.{after_word}
-use Rattle.words_rule.specs.FreeSlots.{FreeSlots}
+use Rattle.free_list.specs.FreeSlots.{FreeSlots}
 
 -- an order word is no longer due
 abbrev stored : View → ℕ → View
@@ -69,7 +69,7 @@ module _ (v : View) (know : KnowsAll v) (which : Order) (level : ℕ) (can : Can
     };
   }
 
-module _ {S : Type 0} (board : S → List (std.Option Held)) (free_slots : S → FreeSlots) (memo : S → List ℕ) where
+module _ {S : Type 0} (board : S → List (std.Option Cell)) (free_slots : S → FreeSlots) (memo : S → List ℕ) where
   abbrev TheRule : State (std.Option S) View → Type 0
   TheRule = Rule board free_slots memo
 

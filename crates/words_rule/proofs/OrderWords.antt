@@ -13,7 +13,7 @@ use Rattle.function_laws.specs.declared.orders.Order.{Order}
 use Rattle.function_laws.specs.declared.orders.Order.TheVariants.{Variables, Elements}
 use Rattle.function_laws.specs.SiftedOrders.{place_of}
 use Rattle.function_laws.specs.Sizes.{Orders, in_order}
-use Rattle.words_rule.specs.declared.view.Held.{Held}
+use Rattle.words_rule.specs.declared.cell.Cell.{Cell}
 use Rattle.words_rule.specs.declared.view.Hold.TheVariants.{Holding}
 use Rattle.words_rule.specs.declared.view.View.{View}
 use Rattle.words_rule.specs.Chains.{Lists}
@@ -27,7 +27,7 @@ use Rattle.words_rule.proofs.Phases.{one_order}
 use Rattle.words_rule.proofs.Rewrites.{order_by_full}
 use Rattle.words_rule.proofs.Stepping.{shape_is}
 use Rattle.words_rule.proofs.Tabling.{stays}
-use Rattle.words_rule.specs.FreeSlots.{FreeSlots}
+use Rattle.free_list.specs.FreeSlots.{FreeSlots}
 
 module _ (z : Shape) (os : Orders) (variables_long : length os.variables ≡ z.variables) (elements_long : length os.elements ≡ z.elements) where
   pub position_below : (which : Order) (level : ℕ) → level < length (in_order os which) → position z which level < places z
@@ -63,7 +63,7 @@ pub next_position : (z : Shape) (which : Order) (level : ℕ) → position z whi
 next_position z Variables level = refl
 next_position z Elements level = omega arith
 
-module _ {S : Type 0} (board : S → List (std.Option Held)) (free_slots : S → FreeSlots) (memo : S → List ℕ) where
+module _ {S : Type 0} (board : S → List (std.Option Cell)) (free_slots : S → FreeSlots) (memo : S → List ℕ) where
   abbrev TheRule : State (std.Option S) View → Type 0
   TheRule = Rule board free_slots memo
 

@@ -9,6 +9,7 @@ use lib.ListN.{get_elem?}
 use Rattle.atomic_table.specs.Table.{State, Me, step, keeps, Allows}
 use Rattle.atomic_table.proofs.Lists.{at_map, set_again}
 use Rattle.seat_guard.proofs.Bits.{and_set, or_clear, or_set, xor_clear, xor_set}
+use Rattle.words_rule.specs.declared.cell.Cell.{Cell}
 use Rattle.words_rule.specs.declared.view.Held.{Held}
 use Rattle.words_rule.specs.declared.view.Known.{Known}
 use Rattle.words_rule.specs.declared.view.Share.TheVariants as shares
@@ -27,9 +28,9 @@ use Rattle.words_rule.proofs.Stepping.{parts_op_out, parts_op_debt, parts_walk_o
 use Rattle.words_rule.proofs.Holds.{parts_hold, parts_unhold}
 use Rattle.words_rule.proofs.Tabling.{after_word, set_set, stays}
 use Rattle.words_rule.proofs.Learning.{parts_noting}
-use Rattle.words_rule.specs.FreeSlots.{FreeSlots}
+use Rattle.free_list.specs.FreeSlots.{FreeSlots}
 
-module _ {S : Type 0} (board : S → List (std.Option Held)) (free_slots : S → FreeSlots) (memo : S → List ℕ) (slots id : ℕ) (me : Me (std.Option S) View) (live : me.0.draws.live ≡ true) where
+module _ {S : Type 0} (board : S → List (std.Option Cell)) (free_slots : S → FreeSlots) (memo : S → List ℕ) (slots id : ℕ) (me : Me (std.Option S) View) (live : me.0.draws.live ≡ true) where
   abbrev pub PartsOf : Shape → Words → (ℕ → Option (Option (std.Option S))) → List View → Type 0
   PartsOf = Parts board free_slots memo
 

@@ -13,6 +13,7 @@ use Rattle.handle_count.specs.CountWords.{count_of}
 use Rattle.function_laws.specs.EntryOrders.{opening_orders, orders_from}
 use Rattle.function_laws.specs.SessionEntries.{Each}
 use Rattle.function_laws.specs.Tables.{Sizes}
+use Rattle.words_rule.specs.declared.cell.Cell.{Cell}
 use Rattle.words_rule.specs.declared.view.Share.TheVariants as operation
 use Rattle.words_rule.specs.declared.view.Hold.TheVariants.{Free, Holding}
 use Rattle.words_rule.specs.declared.view.Held.{Held}
@@ -41,7 +42,7 @@ use Rattle.words_rule.proofs.Sifting.{steps_quiet}
 use Rattle.words_rule.proofs.Seeing.{seen_other}
 use Rattle.words_rule.proofs.Phases.{moves}
 use Rattle.words_rule.proofs.Tallying.{total-set}
-use Rattle.words_rule.specs.FreeSlots.{FreeSlots}
+use Rattle.free_list.specs.FreeSlots.{FreeSlots}
 
 -- the same view, told otherwise
 frame : {A : Type 0} (f : View → A) (vs : List View) (id : ℕ) (v w : View) → get_elem? vs id ≡ some v → f w ≡ f v → map f (set vs id w) ≡ map f vs
@@ -53,7 +54,7 @@ nothing_held e = cc
 free_not : Free ≡ Holding → ⊥
 free_not e = cc
 
-module _ {S : Type 0} (board : S → List (std.Option Held)) (free_slots : S → FreeSlots) (memo : S → List ℕ) where
+module _ {S : Type 0} (board : S → List (std.Option Cell)) (free_slots : S → FreeSlots) (memo : S → List ℕ) where
   module _ (z : Shape) (ws : Words) (home : ℕ → Option (Option (std.Option S))) (vs : List View) (r : Parts board free_slots memo z ws home vs) (id : ℕ) (v : View) (at : get_elem? vs id ≡ some v) (live : v.draws.live ≡ true) (settled : IsSettled v) where
     abbrev b : View
     b = bare v.draws

@@ -28,7 +28,7 @@ use Rattle.node_store.proofs.ExchangeSound.{exchanged_sound}
 use Rattle.function_laws.specs.SessionEntries.{Each}
 use Rattle.words_rule.specs.Generations.{IsOfSlot}
 use Rattle.words_rule.specs.Holders.{AreHolders, IsAge, IsHolder}
-use Rattle.words_rule.specs.declared.view.Held.{Held}
+use Rattle.words_rule.specs.declared.cell.Cell.{Cell}
 use Rattle.words_rule.specs.declared.view.Hold.{Hold}
 use Rattle.words_rule.specs.declared.view.Hold.TheVariants.{Free, Claimed, Holding}
 use Rattle.words_rule.specs.declared.view.Known.{Known}
@@ -61,7 +61,7 @@ use Rattle.words_rule.proofs.Draws.{frame, by_full, PendingBy}
 use Rattle.words_rule.proofs.Handed.{moved, parts_moved, remembered_here}
 use Rattle.words_rule.specs.Remembered.{Remembered}
 use Rattle.words_rule.proofs.Remembering.{remembered_away}
-use Rattle.words_rule.specs.FreeSlots.{FreeSlots}
+use Rattle.free_list.specs.FreeSlots.{FreeSlots}
 
 -- two neighbours exchanged
 swapped_at : (xs : List ℕ) (l : ℕ) → l + 1 < length xs → slice_index (swap xs l (l + 1)) l ≡ slice_index xs (l + 1)
@@ -173,7 +173,7 @@ positions_next z orders due pending order p = record {
   ];
 }
 
-module _ {S : Type 0} (board : S → List (std.Option Held)) (free_slots : S → FreeSlots) (memo : S → List ℕ) where
+module _ {S : Type 0} (board : S → List (std.Option Cell)) (free_slots : S → FreeSlots) (memo : S → List ℕ) where
   abbrev PartsOf : Shape → Words → (ℕ → Option (Option (std.Option S))) → List View → Type 0
   PartsOf = Parts board free_slots memo
 

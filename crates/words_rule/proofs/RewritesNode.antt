@@ -13,7 +13,7 @@ use Rattle.edge_bits.specs.declared.words.Word.TheVariants.{Inner}
 use Rattle.node_store.specs.Contents.{Content, IsSound, Pair}
 use Rattle.node_store.specs.Changes.{CanRewrite, pair_of, put_at, rewritten, var_of}
 use Rattle.node_store.proofs.Rewriting.{put_at-same, put_at-other, rewritten_sound}
-use Rattle.words_rule.specs.declared.view.Held.{Held}
+use Rattle.words_rule.specs.declared.cell.Cell.{Cell}
 use Rattle.words_rule.specs.declared.view.Hold.TheVariants.{Holding}
 use Rattle.words_rule.specs.declared.view.Known.{Known}
 use Rattle.words_rule.specs.declared.view.View.{View}
@@ -30,7 +30,7 @@ use Rattle.words_rule.proofs.Layouts.{set_node}
 use Rattle.words_rule.proofs.Rewrites.{order_by_full, parts_rewrite}
 use Rattle.words_rule.proofs.Stepping.{shape_is}
 use Rattle.words_rule.proofs.Tabling.{after_word}
-use Rattle.words_rule.specs.FreeSlots.{FreeSlots}
+use Rattle.free_list.specs.FreeSlots.{FreeSlots}
 
 -- what the seat knows after it: the word in its slot, and the two variables whose swap is half made
 abbrev rewriting : View → ℕ → ℕ → ℕ → View
@@ -69,7 +69,7 @@ module _ (v : View) (know : KnowsAll v) (k : Kind) (q bits : ℕ) (node : Node) 
     knows = knows_after;
   }
 
-module _ {S : Type 0} (board : S → List (std.Option Held)) (free_slots : S → FreeSlots) (memo : S → List ℕ) where
+module _ {S : Type 0} (board : S → List (std.Option Cell)) (free_slots : S → FreeSlots) (memo : S → List ℕ) where
   abbrev TheRule : State (std.Option S) View → Type 0
   TheRule = Rule board free_slots memo
 

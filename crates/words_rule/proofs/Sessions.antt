@@ -16,6 +16,7 @@ use Rattle.function_laws.specs.declared.history.Entry.{Entry}
 use Rattle.function_laws.specs.Tables.{Sizes}
 use Rattle.function_laws.specs.EntryOrders.{opening_orders, orders_from}
 use Rattle.function_laws.specs.SessionEntries.{Each, entries_of}
+use Rattle.words_rule.specs.declared.cell.Cell.{Cell}
 use Rattle.words_rule.specs.declared.view.Share.TheVariants as operation
 use Rattle.words_rule.specs.Ordered.{KnowsOrders}
 use Rattle.words_rule.specs.Generations.{IsOfSlot}
@@ -49,7 +50,7 @@ use Rattle.words_rule.proofs.Tallying.{total-set}
 use Rattle.words_rule.proofs.Sifting.{quiet}
 use Rattle.node_store.specs.Contents.{Pair, view_of}
 use Rattle.words_rule.specs.Remembered.{Remembered}
-use Rattle.words_rule.specs.FreeSlots.{FreeSlots}
+use Rattle.free_list.specs.FreeSlots.{FreeSlots}
 
 total-append : {A : Type 0} (f : A → ℕ) (xs : List A) (b : A) → total f (xs ++ b ∷ []) ≡ total f xs + f b
 total-append f [] b = omega arith
@@ -116,7 +117,7 @@ bare_holder count half pending e = ((λ holding. absurd (never_holds holding)), 
     never_holds : Free ≡ Holding → ⊥
     never_holds h = cc
 
-module _ {S : Type 0} (board : S → List (std.Option Held)) (free_slots : S → FreeSlots) (memo : S → List ℕ) where
+module _ {S : Type 0} (board : S → List (std.Option Cell)) (free_slots : S → FreeSlots) (memo : S → List ℕ) where
   abbrev PartsOf : Shape → Words → (ℕ → Option (Option (std.Option S))) → List View → Type 0
   PartsOf = Parts board free_slots memo
 
@@ -323,7 +324,7 @@ rows-append : (k : ℕ) (xs ys : List Row) → row_count k (xs ++ ys) ≡ row_co
 rows-append k [] ys = omega arith
 rows-append k (x ∷ xs) ys = let r = rows-append k xs ys in omega (arith, r)
 
-module _ {S : Type 0} (board : S → List (std.Option Held)) (free_slots : S → FreeSlots) (memo : S → List ℕ) where
+module _ {S : Type 0} (board : S → List (std.Option Cell)) (free_slots : S → FreeSlots) (memo : S → List ℕ) where
   -- a session's seat is taken in
   pub parts_join : (z : Shape) (ws : Words) (home : ℕ → Option (Option (std.Option S))) (vs : List View) (r : Parts board free_slots memo z ws home vs) (id other : ℕ) (d e : Draws) → get_elem? vs id ≡ some (bare d) → ¬ (other ≡ id)
       → get_elem? (set vs id (bare (with_gone d e))) other ≡ some (bare e) → d.closing ≡ true → e.live ≡ true → e.holds ≡ false

@@ -10,6 +10,7 @@ use Rattle.node_store.specs.Views.{Grown, values_at}
 use Rattle.node_store.specs.ViewLaws.{Permanent-grown, IsProjection-grown}
 use Rattle.node_slots.proofs.Canonical.{edge_is}
 use Rattle.step_store.specs.Knowing.{Knowledge, Stands}
+use Rattle.words_rule.specs.declared.cell.Cell.{Cell}
 use Rattle.words_rule.specs.declared.view.Held.{Held}
 use Rattle.words_rule.specs.declared.view.Share.TheVariants as shares
 use Rattle.words_rule.specs.declared.view.View.{View}
@@ -21,9 +22,9 @@ use Rattle.words_rule.proofs.Fresh.{edge_once}
 use Rattle.words_rule.proofs.Stepping.{shape_is}
 use Rattle.words_rule.proofs.Narrowing.{denotes_up}
 use Rattle.words_rule.proofs.Meeting.{content_true, narrow}
-use Rattle.words_rule.specs.FreeSlots.{FreeSlots}
+use Rattle.free_list.specs.FreeSlots.{FreeSlots}
 
-module _ {S : Type 0} (board : S → List (std.Option Held)) (free_slots : S → FreeSlots) (memo : S → List ℕ) where
+module _ {S : Type 0} (board : S → List (std.Option Cell)) (free_slots : S → FreeSlots) (memo : S → List ℕ) where
   module _ (z : Shape) (ws : Words) (home : ℕ → Option (Option (std.Option S))) (vs : List View) (r : Parts board free_slots memo z ws home vs) (id : ℕ) (v : View) (at : get_elem? vs id ≡ some v)
       (live : v.draws.live ≡ std.true) (share : v.shares.op ≡ shares.Held) (orders_noted : orders_of v.known ≡ r.orders) (o : Own) where
     abbrev w : Content

@@ -55,7 +55,7 @@ use Rattle.std.proofs.Math.Nat.{min-le_right}
 use Rattle.std.proofs.lemmas.Bool.{cases_eq}
 use Rattle.words_rule.specs.declared.seat.OpShare.{OpShare}
 use Rattle.words_rule.specs.Tokens.{IsShare}
-use Rattle.words_rule.specs.FreeSlots.{FreeSlots, slots_in}
+use Rattle.free_list.specs.FreeSlots.{FreeSlots, slots_in}
 
 some_bits : (a b : ℕ) → Some a ≡ Some b → a ≡ b
 some_bits a b e = cc

@@ -21,6 +21,7 @@ use Rattle.words_rule.proofs.Rewrites.{parts_known}
 use Rattle.words_rule.specs.Ordered.{KnowsOrders}
 use Rattle.words_rule.specs.Generations.{IsOfSlot}
 use Rattle.words_rule.specs.Holders.{IsAge, IsHolder}
+use Rattle.words_rule.specs.declared.cell.Cell.{Cell}
 use Rattle.words_rule.specs.declared.view.Held.{Held}
 use Rattle.words_rule.specs.declared.view.Hold.TheVariants.{Free, Claimed, Holding}
 use Rattle.words_rule.specs.declared.view.Share.TheVariants as shares
@@ -53,7 +54,7 @@ use Rattle.words_rule.proofs.Draws.{frame, by_full, by_pending}
 use Rattle.words_rule.proofs.Handed.{ordered_same}
 use Rattle.node_store.specs.Contents.{Pair, view_of}
 use Rattle.words_rule.specs.Remembered.{Remembered}
-use Rattle.words_rule.specs.FreeSlots.{FreeSlots}
+use Rattle.free_list.specs.FreeSlots.{FreeSlots}
 
 walk_nothing : shares.Nothing ≡ shares.Held → ⊥
 walk_nothing e = cc
@@ -81,7 +82,7 @@ holder_recounted old new half pending v still h = ((λ holding. each_map (IsAge 
 abbrev pub with_orders : Orders → View → View
 with_orders orders v = record v { known = record v.known { variable_order = orders.variables; element_order = orders.elements } }
 
-module _ {S : Type 0} (board : S → List (std.Option Held)) (free_slots : S → FreeSlots) (memo : S → List ℕ) where
+module _ {S : Type 0} (board : S → List (std.Option Cell)) (free_slots : S → FreeSlots) (memo : S → List ℕ) where
   abbrev PartsOf : Shape → Words → (ℕ → Option (Option (std.Option S))) → List View → Type 0
   PartsOf = Parts board free_slots memo
 

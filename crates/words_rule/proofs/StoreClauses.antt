@@ -15,6 +15,7 @@ use Rattle.node_slots.proofs.Answering.{value_fits}
 use Rattle.step_store.specs.Chains as steps
 use Rattle.step_store.specs.Knowing as knowing
 use Rattle.step_store.specs.Knowing.{Knowledge, IsWanted, MayStore}
+use Rattle.words_rule.specs.declared.cell.Cell.{Cell}
 use Rattle.words_rule.specs.declared.view.Held.{Held}
 use Rattle.words_rule.specs.declared.view.Share.TheVariants as shares
 use Rattle.words_rule.specs.declared.view.Job.{Job}
@@ -38,7 +39,7 @@ use Rattle.words_rule.proofs.Narrowing.{can_up, values_same}
 use Rattle.words_rule.proofs.Meeting.{word_stands, narrow}
 use Rattle.words_rule.proofs.NodeLoads.{lists_on, walk_in}
 use Rattle.words_rule.proofs.HandClauses.{stands_at, none_back}
-use Rattle.words_rule.specs.FreeSlots.{FreeSlots}
+use Rattle.free_list.specs.FreeSlots.{FreeSlots}
 
 some_job : (a b : Job) → Some a ≡ Some b → a ≡ b
 some_job a b e = cc
@@ -60,7 +61,7 @@ pub level_is_turn : (v : View) (o : Own) (word : Word) → level_of (shape_in v.
 level_is_turn v o (Inner node) = refl
 level_is_turn v o (Leaf x) = refl
 
-module _ {S : Type 0} (board : S → List (std.Option Held)) (free_slots : S → FreeSlots) (memo : S → List ℕ) where
+module _ {S : Type 0} (board : S → List (std.Option Cell)) (free_slots : S → FreeSlots) (memo : S → List ℕ) where
   abbrev PartsOf : Shape → Words → (ℕ → Option (Option (std.Option S))) → List View → Type 0
   PartsOf = Parts board free_slots memo
 

@@ -17,6 +17,7 @@ use Rattle.function_laws.specs.EntryOrders.{opening_orders, orders_from}
 use Rattle.node_store.specs.Changes.{put_at}
 use Rattle.node_store.proofs.Rewriting.{put_at-same}
 use Rattle.words_rule.specs.Ordered.{KnowsOrders}
+use Rattle.words_rule.specs.declared.cell.Cell.{Cell}
 use Rattle.words_rule.specs.declared.view.Held.{Held}
 use Rattle.words_rule.specs.declared.view.SeenWord.{SeenWord}
 use Rattle.words_rule.specs.declared.view.Hold.TheVariants.{Holding}
@@ -40,7 +41,7 @@ use Rattle.words_rule.proofs.Handed.{handed, parts_store, stored_function}
 use Rattle.words_rule.proofs.Rewrites.{parts_known}
 use Rattle.words_rule.proofs.Stepping.{shape_is}
 use Rattle.words_rule.proofs.Tabling.{set_set, after_word, pushes_slot, pushed_it}
-use Rattle.words_rule.specs.FreeSlots.{FreeSlots}
+use Rattle.free_list.specs.FreeSlots.{FreeSlots}
 
 -- a view with a word and a function more
 abbrev pub noting_slot : View → SeenWord → Held → View
@@ -49,7 +50,7 @@ noting_slot v note held = record v { known = record v.known { words = note ∷ v
 abbrev pub edge_at : ℕ → Function → Held
 edge_at s f = record { edge = record { index = s; complement = false }; function = f }
 
-module _ {S : Type 0} (board : S → List (std.Option Held)) (free_slots : S → FreeSlots) (memo : S → List ℕ) where
+module _ {S : Type 0} (board : S → List (std.Option Cell)) (free_slots : S → FreeSlots) (memo : S → List ℕ) where
   abbrev PartsOf : Shape → Words → (ℕ → Option (Option (std.Option S))) → List View → Type 0
   PartsOf = Parts board free_slots memo
 

@@ -13,6 +13,7 @@ use Rattle.atomic_table.proofs.Lists.{set_else, set_here, set_again}
 use Rattle.edge_bits.specs.Words.{unpack_of}
 use Rattle.function_laws.specs.SessionEntries.{Each}
 use Rattle.node_store.specs.Changes.{put_at}
+use Rattle.words_rule.specs.declared.cell.Cell.{Cell}
 use Rattle.words_rule.specs.declared.view.Held.{Held}
 use Rattle.words_rule.specs.declared.view.SeenWord.{SeenWord}
 use Rattle.words_rule.specs.declared.view.Share.TheVariants as shares
@@ -34,7 +35,7 @@ use Rattle.words_rule.specs.Chains.{Along}
 use Rattle.words_rule.proofs.Lists.{set_at}
 use Rattle.words_rule.proofs.Handed.{handed, parts_hand, remembered_here, seen_here, hand_at, parts_store, parts_link, parts_push, parts_walk}
 use Rattle.words_rule.proofs.Stepping.{shape_is}
-use Rattle.words_rule.specs.FreeSlots.{FreeSlots}
+use Rattle.free_list.specs.FreeSlots.{FreeSlots}
 
 abbrev pub is_holding : Hold → Bool
 is_holding Holding = true
@@ -45,7 +46,7 @@ set_set [] i a b = refl
 set_set (x ∷ xs) zero a b = refl
 set_set (x ∷ xs) (suc i) a b = ap (λ (l : List _). x ∷ l) (set_set xs i a b)
 
-module _ {S : Type 0} (board : S → List (std.Option Held)) (free_slots : S → FreeSlots) (memo : S → List ℕ) where
+module _ {S : Type 0} (board : S → List (std.Option Cell)) (free_slots : S → FreeSlots) (memo : S → List ℕ) where
   abbrev PartsOf : Shape → Words → (ℕ → Option (Option (std.Option S))) → List View → Type 0
   PartsOf = Parts board free_slots memo
 

@@ -5,7 +5,7 @@ use mathlib.Core.Option.{none}
 use lib.ListN.{get_elem?}
 use Rattle.atomic_table.specs.Table.{State, Me, step, Allows}
 use Rattle.step_store.specs.Chains as steps
-use Rattle.words_rule.specs.declared.view.Held.{Held}
+use Rattle.words_rule.specs.declared.cell.Cell.{Cell}
 use Rattle.words_rule.specs.declared.view.Hold.TheVariants.{Holding}
 use Rattle.words_rule.specs.declared.view.View.{View}
 use Rattle.words_rule.specs.declared.view.Walk.{Walk}
@@ -22,7 +22,7 @@ use Rattle.words_rule.proofs.HolderKnows.{word_same}
 use Rattle.words_rule.proofs.Linking.{next_is}
 use Rattle.words_rule.proofs.Loosing.{KnowsSlot, unheads, unlinks}
 use Rattle.words_rule.proofs.Stepping.{shape_is}
-use Rattle.words_rule.specs.FreeSlots.{FreeSlots}
+use Rattle.free_list.specs.FreeSlots.{FreeSlots}
 
 some_walk : (a b : Walk) → Some a ≡ Some b → a ≡ b
 some_walk a b e = cc
@@ -51,7 +51,7 @@ grouped : (front : List ℕ) (b slot : ℕ) (behind : List ℕ) → (front ++ b 
 grouped [] b slot behind = refl
 grouped (x ∷ front) b slot behind = ap (λ (l : List ℕ). x ∷ l) (grouped front b slot behind)
 
-module _ {S : Type 0} (board : S → List (std.Option Held)) (free_slots : S → FreeSlots) (memo : S → List ℕ) where
+module _ {S : Type 0} (board : S → List (std.Option Cell)) (free_slots : S → FreeSlots) (memo : S → List ℕ) where
   abbrev TheRule : State (std.Option S) View → Type 0
   TheRule = Rule board free_slots memo
 

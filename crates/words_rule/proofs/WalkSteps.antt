@@ -23,6 +23,7 @@ use Rattle.node_store.specs.Contents.{Content, view_of, opened_of}
 use Rattle.node_store.specs.Views.{IsBeyond, Is, Kept, values_at}
 use Rattle.step_store.specs.Walking.{Tells}
 use Rattle.words_rule.specs.Ordered.{KnowsOrders}
+use Rattle.words_rule.specs.declared.cell.Cell.{Cell}
 use Rattle.words_rule.specs.declared.view.Held.{Held}
 use Rattle.words_rule.specs.declared.view.Hold.TheVariants.{Holding}
 use Rattle.words_rule.specs.declared.view.Share.TheVariants as shares
@@ -45,9 +46,9 @@ use Rattle.words_rule.proofs.Meeting.{kind_of, seen_true, some_denoted}
 use Rattle.words_rule.proofs.Narrowing.{Narrow, Known, is_up, values_same}
 use Rattle.words_rule.proofs.HandClauses.{some_back}
 use Rattle.words_rule.proofs.WalkLoads.{levelless, denotes_to, tells_word, tells_down}
-use Rattle.words_rule.specs.FreeSlots.{FreeSlots}
+use Rattle.free_list.specs.FreeSlots.{FreeSlots}
 
-module _ {S : Type 0} (board : S → List (std.Option Held)) (free_slots : S → FreeSlots) (memo : S → List ℕ) where
+module _ {S : Type 0} (board : S → List (std.Option Cell)) (free_slots : S → FreeSlots) (memo : S → List ℕ) where
   abbrev PartsOf : Shape → Words → (ℕ → Option (Option (std.Option S))) → List View → Type 0
   PartsOf = Parts board free_slots memo
 

@@ -12,6 +12,7 @@ use Rattle.function_laws.specs.SessionEntries.{Each, entries_of}
 use Rattle.function_laws.specs.Sizes.{Orders}
 use Rattle.function_laws.specs.EntryOrders.{opening_orders, orders_from}
 use Rattle.node_store.specs.Contents.{IsSound, Pair, view_of}
+use Rattle.words_rule.specs.declared.cell.Cell.{Cell}
 use Rattle.words_rule.specs.declared.view.Held.{Held}
 use Rattle.words_rule.specs.declared.view.Row.{Row}
 use Rattle.words_rule.specs.declared.view.Gone.{Gone}
@@ -21,13 +22,13 @@ use Rattle.words_rule.specs.declared.view.Share.TheVariants.{Nothing}
 use Rattle.words_rule.specs.declared.view.Hold.TheVariants.{Free}
 use Rattle.words_rule.specs.Layout.{Shape, words_of, content_of}
 use Rattle.words_rule.specs.Shapes.{shape_in}
-use Rattle.words_rule.specs.Views.{sizes_for, stands_for, cell_in}
+use Rattle.words_rule.specs.Views.{sizes_for, stands_for, cell_in, shown}
 use Rattle.words_rule.specs.Notes.{IsNotedIn}
 use Rattle.words_rule.specs.Hands.{IsIdle, IsFreeList}
 use Rattle.words_rule.specs.Kept.{IsHeldBy, IsKeptCell}
 use Rattle.words_rule.specs.Remembered.{AreAnswers}
 use Rattle.words_rule.specs.Sifted.{IsPlaced, carried_by}
-use Rattle.words_rule.specs.FreeSlots.{FreeSlots}
+use Rattle.free_list.specs.FreeSlots.{FreeSlots}
 
 -- it has no share and no hold, no turn, no free list, no board and no computed table, is in the midst of nothing, and has nothing raised or owed
 pub record IsSettled (v : View) : Type 0 where
@@ -62,7 +63,7 @@ pub record Whole (n : ℕ) (start : Sizes) (given : ℕ) (gone : List Gone) : Ty
 abbrev pub closed : {S : Type 0} → Step S → Me S View → ℕ → Me S View → Type 0
 closed st m r m' = (m' ≡ m) × (m.0.draws.closing ≡ true → Whole r (sizes_for m.0.draws.vars m.0.draws.elements) m.0.draws.given m.0.draws.gone)
 
-module _ {S : Type 0} (board : S → List (std.Option Held)) (free_slots : S → FreeSlots) (memo : S → List ℕ) where
+module _ {S : Type 0} (board : S → List (std.Option Cell)) (free_slots : S → FreeSlots) (memo : S → List ℕ) where
   -- What the words and the slots of a table are after all sessions came back. The store that the node words are is sound; it keeps what the rows and the cells name. Where the phase word is 0 no swap is half made, and the orders are those that the history leaves. Where the word of a turn is 0 its slot has the board that the history leaves, the list of the free slots, or a computed table of which each entry holds.
   pub record Remains (z : Shape) (words : List ℕ) (slots : List (std.Option S)) (rows : List Row) (log : List Entry) : Type 0 where
     pub cells : List (std.Option Held)
@@ -75,7 +76,7 @@ module _ {S : Type 0} (board : S → List (std.Option Held)) (free_slots : S →
     pub cells_kept : Each (IsKeptCell z function) cells
     pub cells_are : (table_after (opening (sizes_for z.variables z.elements)) log).cells ≡ cell_in cells
     pub calm : slice_index words 1 ≡ 0 → (half ≡ std.None) × (orders ≡ orders_from (opening_orders (sizes_for z.variables z.elements)) log)
-    pub board_home : slice_index words 2 ≡ 0 → (x : S) × (get_elem? slots 0 ≡ some (std.Some x)) × (board x ≡ cells)
+    pub board_home : slice_index words 2 ≡ 0 → (x : S) × (get_elem? slots 0 ≡ some (std.Some x)) × (board x ≡ shown cells)
     pub free_home : slice_index words 3 ≡ 0 → (x : S) × (get_elem? slots 1 ≡ some (std.Some x)) × ((free_slots x).slots ≡ free_list)
     pub memo_home : slice_index words 5 ≡ 0 → (x : S) × (get_elem? slots 2 ≡ some (std.Some x)) × AreAnswers (view_of (content_of z (words_of z words).node orders function half)) (memo x)
     pub free_is : IsFreeList z (content_of z (words_of z words).node orders function half) (λ _. none) free_list

@@ -28,7 +28,7 @@ use Rattle.words_rule.specs.Layout.{count_at, head_at, head_of, next_at, node_at
 use Rattle.words_rule.specs.Shapes.{shape_in}
 use Rattle.words_rule.specs.Tallies.{one_if}
 use Rattle.words_rule.specs.Views.{orders_of, told_orders}
-use Rattle.words_rule.specs.FreeSlots.{FreeSlots}
+use Rattle.free_list.specs.FreeSlots.{FreeSlots}
 
 -- It learns the whole store: its notes of nodes, generations and counts change alone.
 pub record HasLearnt (v u : View) : Type 0 where

@@ -10,10 +10,11 @@ use Rattle.function_laws.specs.Values.{projection}
 use Rattle.function_laws.specs.Lists.{list_of}
 use Rattle.function_laws.specs.SessionEntries.{Each}
 use Rattle.function_laws.specs.Tables.{Table}
+use Rattle.words_rule.specs.declared.cell.Cell.{Cell}
 use Rattle.words_rule.specs.declared.view.Held.{Held}
 use Rattle.words_rule.specs.declared.view.Row.{Row}
 use Rattle.words_rule.specs.declared.view.Draws.{Draws}
-use Rattle.words_rule.specs.Views.{cell_in}
+use Rattle.words_rule.specs.Views.{cell_in, shown}
 use Rattle.words_rule.specs.Layout.{Shape}
 use Rattle.words_rule.specs.Tallies.{Tally}
 
@@ -42,7 +43,7 @@ pub record Kept (z : Shape) (function : ℕ → std.Option Denoted) (cells : Lis
   pub cells_kept : Each (IsKeptCell z function) cells
 
 -- The board is at home where its turn word is 0; who has it in hand knows it.
-pub record Board {S : Type 0} (board : S → List (std.Option Held)) (turn : ℕ) (home : Option (Option (std.Option S))) (ds : List Draws) (t : Table) (cells : List (std.Option Held)) : Type 0 where
+pub record Board {S : Type 0} (board : S → List (std.Option Cell)) (turn : ℕ) (home : Option (Option (std.Option S))) (ds : List Draws) (t : Table) (cells : List (std.Option Held)) : Type 0 where
   pub are : t.cells ≡ cell_in cells
-  pub home_is : turn ≡ 0 → (x : S) × (home ≡ some (some (Some x))) × (board x ≡ cells)
+  pub home_is : turn ≡ 0 → (x : S) × (home ≡ some (some (Some x))) × (board x ≡ shown cells)
   pub held : (id : ℕ) (d : Draws) → get_elem? ds id ≡ some d → d.holds ≡ true → d.cells ≡ cells

@@ -1,4 +1,3 @@
-pub mod FreeSlots
 pub mod Chains
 pub mod Layout
 pub mod Shapes

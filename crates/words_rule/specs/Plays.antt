@@ -9,13 +9,14 @@ use Rattle.node_store.specs.Contents.{level_of}
 use Rattle.node_store.specs.Views.{IsVariable}
 use Rattle.step_store.specs.Chains.{link_to}
 use Rattle.step_store.specs.Knowing.{IsChain, risen}
+use Rattle.words_rule.specs.declared.cell.Cell.{Cell}
 use Rattle.words_rule.specs.declared.view.Held.{Held}
 use Rattle.words_rule.specs.declared.view.Share.TheVariants as shares
 use Rattle.words_rule.specs.declared.view.Job.{Job}
 use Rattle.words_rule.specs.declared.view.Walk.{Walk}
 use Rattle.words_rule.specs.declared.view.Hand.{Hand}
 use Rattle.words_rule.specs.declared.view.View.{View}
-use Rattle.words_rule.specs.Views.{holding, letting_go, orders_of}
+use Rattle.words_rule.specs.Views.{holding, letting_go, orders_of, shown}
 use Rattle.words_rule.specs.Layout.{places, turn_at, order_at, node_at, next_at, head_at}
 use Rattle.words_rule.specs.Shapes.{shape_in}
 use Rattle.words_rule.specs.Phase.{with_op}
@@ -24,7 +25,7 @@ use Rattle.words_rule.specs.Hands.{place_of, linking, pushing, taking, with_leve
 use Rattle.words_rule.specs.Known.{Own, known_of, own_none, with_made}
 use Rattle.words_rule.specs.Loads.{IsSeatOf, LearntMemo, LoadedNode, LoadedWord, StoredNode, seeing}
 use Rattle.edge_bits.specs.Permanent.{first_element}
-use Rattle.words_rule.specs.FreeSlots.{FreeSlots}
+use Rattle.free_list.specs.FreeSlots.{FreeSlots}
 
 module _ {S : Type 0} where
   -- an operation share: it is held, or there was a bit
@@ -100,9 +101,9 @@ module _ {S : Type 0} where
   abbrev pub word_walked : Step S → Me S View → ℕ → Me S View → Type 0
   word_walked st m n m' = (m'.1 ≡ m.1) × (m'.0 ≡ seeing m.0 m'.0.known.seen) × ((q : ℕ) → st.word ≡ node_at (shape_in m.0.draws) q → LoadedWord m.0 m'.0 q n)
 
-module _ {S : Type 0} (board : S → List (std.Option Held)) where
+module _ {S : Type 0} (board : S → List (std.Option Cell)) where
   abbrev pub board_taken : Step (std.Option S) → Me (std.Option S) View → ℕ → Me (std.Option S) View → Type 0
-  board_taken st m n m' = (n ≡ 0 → (x : S) × (m' ≡ (record m.0 { draws = holding m.0.draws (board x) }, (0, Some x) ∷ m.1))) × (n ≢ 0 → m' ≡ m)
+  board_taken st m n m' = (n ≡ 0 → (x : S) × (cells : List (std.Option Held)) × (board x ≡ shown cells) × (m' ≡ (record m.0 { draws = holding m.0.draws cells }, (0, Some x) ∷ m.1))) × (n ≢ 0 → m' ≡ m)
 
 module _ {S : Type 0} where
   abbrev pub board_given : Step S → Me S View → ℕ → Me S View → Type 0

@@ -24,7 +24,7 @@ use Rattle.words_rule.specs.Loads.{TakenReads}
 use Rattle.words_rule.specs.Passes.{view, in_hand, IsLiveOf}
 use Rattle.words_rule.specs.Remembered.{AreAnswers}
 use Rattle.words_rule.specs.Views.{blank}
-use Rattle.words_rule.specs.FreeSlots.{FreeSlots, slots_in}
+use Rattle.free_list.specs.FreeSlots.{FreeSlots, slots_in}
 
 -- what it knows, with room for so many levels in the scratch beside it
 abbrev pub knows : View → ℕ → Knowledge

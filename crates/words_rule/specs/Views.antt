@@ -1,5 +1,5 @@
 -- What a seat knows, when a table of functions agrees with it, and what a call may tell.
-use Rattle.std.specs.Prelude.{◌≡◌, ℕ, suc, ◌≤◌, Bool, if◌then◌else◌, true, false, List, [], ◌∷◌, ◌++◌, length, slice_get, slice_set, Option, Some, None}
+use Rattle.std.specs.Prelude.{◌≡◌, ℕ, suc, ◌≤◌, Bool, if◌then◌else◌, true, false, List, [], ◌∷◌, ◌++◌, length, map, slice_get, slice_set, Option, Some, None, option_map}
 use Rattle.function_laws.specs.declared.history.Name.{Name}
 use Rattle.function_laws.specs.declared.history.Function.{Function}
 use Rattle.function_laws.specs.declared.history.Function.TheVariants as functions
@@ -12,6 +12,9 @@ use Rattle.function_laws.specs.SessionEntries.{entry}
 use Rattle.function_laws.specs.Sizes.{Orders}
 use Rattle.function_laws.specs.EntryOrders.{orders_after}
 use Rattle.function_laws.specs.Handovers.{is_numbered}
+use Rattle.edge_bits.specs.declared.edges.Kind.{Kind}
+use Rattle.edge_bits.specs.declared.edges.Kind.TheVariants as kinds
+use Rattle.words_rule.specs.declared.cell.Cell.{Cell}
 use Rattle.words_rule.specs.declared.view.Held.{Held}
 use Rattle.words_rule.specs.declared.view.Row.{Row}
 use Rattle.words_rule.specs.declared.view.Change.{Change}
@@ -45,6 +48,19 @@ function_in _ = None
 -- what stands in a cell of the board
 abbrev pub cell_in : List (Option Held) → ℕ → Option Function
 cell_in cells i = function_in (slice_get cells i)
+
+-- the kind of a function
+abbrev pub kind_of : Function → Kind
+kind_of (functions.Bdd f) = kinds.Bdd
+kind_of (functions.Add f) = kinds.Add
+kind_of (functions.Zdd p) = kinds.Zdd
+
+-- the cells as the board has them: each edge with the kind of its function
+abbrev pub shown_cell : Held → Cell
+shown_cell held = record { kind = kind_of held.function; edge = held.edge }
+
+abbrev pub shown : List (Option Held) → List (Option Cell)
+shown cells = map (option_map shown_cell) cells
 
 -- the table agrees with what a seat knows: its rows, which names it has not given, and, with the turn, the board
 pub record Agrees (d : Draws) (t : Table) : Type 0 where

@@ -1,11 +1,11 @@
 //! A new table.
-ghost use Rattle.std.specs.Prelude.{◌≡◌, ◌⊎◌, ℕ, ◌+◌, ◌^◌, ◌<◌, ◌≤◌, List, length, slice_index, IfOk, Some, None};
+ghost use Rattle.std.specs.Prelude.{◌≡◌, ◌⊎◌, ℕ, ◌+◌, ◌^◌, ◌<◌, ◌≤◌, List, length, replicate, slice_index, IfOk, Some, None};
 ghost use Rattle.computed_cache.specs.Entries.{kept_at, places as answer_places};
 ghost use Rattle.edge_bits.specs.Words.{IsInRange, unpack_of};
 ghost use Rattle.edge_bits.specs.declared.limits.TheConstants.{CELLS};
 ghost use Rattle.edge_bits.specs.declared.permanent.TheConstants.{FIRST_ELEMENT};
 ghost use Rattle.function_laws.specs.EntryOrders.{opening_orders};
-ghost use Rattle.words_rule.specs.Views.{cell_in, closing_of, sizes_for};
+ghost use Rattle.words_rule.specs.Views.{closing_of, sizes_for};
 ghost use Rattle.words_rule.specs.Layout.{Shape, entry_at, head_bits, heads, node_at, order_at, places, word_count, words_of};
 ghost use Rattle.words_rule.specs.Shapes.{shape_by};
 ghost use Rattle.words_rule.specs.Openings.{AreFree, opening_on, opening_word, shape_of};
@@ -165,8 +165,7 @@ impl<S: Content + Drop> Guard<S> {
     ) -> Result<(Guard<S>, Closing<S>), AllocError>
         requires few { (key.now.vars ≤ FIRST_ELEMENT) × (key.now.elements ≤ FIRST_ELEMENT) × (key.now.slots ≤ MOST_SLOTS) }
         requires room { FIRST_PROJECTION + key.now.vars ≤ key.now.slots }
-        requires cells { length (S.board board) ≡ CELLS }
-        requires empty { cell_in (S.board board) ≡ (λ (i : ℕ). None) }
+        requires cells { S.board board ≡ replicate CELLS None }
         requires free { AreFree (shape_of key.now) (S.free_slots free).slots }
         requires roomy { (S.free_slots free).room ≡ key.now.slots }
         requires places { 0 < answer_places (S.memo answers) }

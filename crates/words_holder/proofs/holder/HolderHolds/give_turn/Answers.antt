@@ -17,7 +17,7 @@ pub give_turn-requires-clause-calm : goal.give_turn-requires-clause-calm
 give_turn-requires-clause-calm g c = (c.requires.own.has.taken, c.requires.calm)
 
 pub returns-clause-own : goal.returns-clause-own
-returns-clause-own g c = let s = c.args.self.now in let e = c.give_turn.ensures in turn_given_on g.S.Content.free_slots g.S.Content.memo s.guard.now s.pass c.give_turn.new.pass s.free s.memo s.due c.requires.own e.own.0 e.own.1 c.args.level e.given
+returns-clause-own g c = let s = c.args.self.now in let e = c.give_turn.ensures in turn_given_on s.guard.now s.pass c.give_turn.new.pass s.list s.memo s.due c.requires.own e.own.0 e.own.1 c.args.level e.given
 
 pub returns-clause-given : goal.returns-clause-given
-returns-clause-given g c = let s = c.args.self.now in let k = knows (view s.pass) s.renewed s.due s.named in ap (λ v. knows v s.renewed s.due s.named) c.give_turn.ensures.given ∙ ap (λ l. handed k (record k.hand { levels = l; walk = None })) (without_same c.args.level (view s.pass).hand.levels)
+returns-clause-given g c = let s = c.args.self.now in let k = knows (view s.pass) s.renewed s.due s.lent in ap (λ v. knows v s.renewed s.due s.lent) c.give_turn.ensures.given ∙ ap (λ l. handed k (record k.hand { levels = l; walk = None })) (without_same c.args.level (view s.pass).hand.levels)

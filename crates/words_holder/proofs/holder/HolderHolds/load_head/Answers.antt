@@ -14,7 +14,7 @@ pub overflow_cast-result : goal.overflow_cast-result
 overflow_cast-result g c = let l = c.load_whole.ensures.loaded in let few = link_few (view c.args.self.now.pass).draws.slots l.0 l.3.chained in let most = c.requires.own.has.knows_all.sound.few_slots in let is = l.2 in omega (arith, few, most, is)
 
 pub returns-clause-own : goal.returns-clause-own
-returns-clause-own g c = let s = c.args.self.now in head_loaded_on g.S.Content.free_slots g.S.Content.memo s.guard.now s.pass c.load_whole.new.pass s.free s.memo s.due c.requires.own c.load_whole.ensures.own c.args.head c.args.level c.load_whole.result c.requires.within c.load_whole.ensures.loaded
+returns-clause-own g c = let s = c.args.self.now in head_loaded_on s.guard.now s.pass c.load_whole.new.pass s.list s.memo s.due c.requires.own c.load_whole.ensures.own c.args.head c.args.level c.load_whole.result c.requires.within c.load_whole.ensures.loaded
 
 pub returns-clause-loaded : goal.returns-clause-loaded
-returns-clause-loaded g c = let s = c.args.self.now in let l = c.load_whole.ensures.loaded in (l.0, ap (λ m. knows m.0 s.renewed s.due s.named) l.1, l.2, whole_told (view s.pass) s.renewed s.due s.named c.args.head c.args.level l.0 c.requires.own.has.knows_all l.3)
+returns-clause-loaded g c = let s = c.args.self.now in let l = c.load_whole.ensures.loaded in (l.0, ap (λ m. knows m.0 s.renewed s.due s.lent) l.1, l.2, whole_told (view s.pass) s.renewed s.due s.lent c.args.head c.args.level l.0 c.requires.own.has.knows_all l.3)

@@ -15,7 +15,7 @@ pub overflow_cast-result : goal.overflow_cast-result
 overflow_cast-result g c = let s = c.args.self.now in let few = number_few (held_content (view s.pass)) c.requires.own.has.knows_all.sound c.args.order c.args.level c.requires.within in let is = c.load_position.ensures.there in omega (arith, few, is)
 
 pub returns-clause-own : goal.returns-clause-own
-returns-clause-own g c = let s = c.args.self.now in same_on g.S.Content.free_slots g.S.Content.memo s.guard.now s.pass c.load_position.new.pass s.free s.memo s.due c.requires.own c.load_position.ensures.own c.load_position.ensures.same
+returns-clause-own g c = let s = c.args.self.now in same_on s.guard.now s.pass c.load_position.new.pass s.list s.memo s.due c.requires.own c.load_position.ensures.own c.load_position.ensures.same
 
 pub returns-clause-same : goal.returns-clause-same
-returns-clause-same g c = let s = c.args.self.now in ap (λ m. knows m.0 s.renewed s.due s.named) c.load_position.ensures.same
+returns-clause-same g c = let s = c.args.self.now in ap (λ m. knows m.0 s.renewed s.due s.lent) c.load_position.ensures.same

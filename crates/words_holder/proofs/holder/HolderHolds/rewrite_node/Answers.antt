@@ -17,7 +17,7 @@ pub rewrite_node-requires-clause-can : goal.rewrite_node-requires-clause-can
 rewrite_node-requires-clause-can g c = let v = view c.args.self.now.pass in let r = c.requires.can in (r.0, r.1, r.2, r.3, stands_at v.hand.levels _ (subst (Lists v.hand.levels) (sym (level_same v c.requires.own.has.knows_all (Inner r.1))) r.4))
 
 pub returns-clause-own : goal.returns-clause-own
-returns-clause-own g c = let s = c.args.self.now in let e = c.rewrite_node.ensures in let r = c.requires.can in rewritten_on g.S.Content.free_slots g.S.Content.memo s.guard.now s.pass c.rewrite_node.new.pass s.free s.memo s.due c.requires.own e.own.0 e.own.1 r.1 c.args.slot c.args.bits (Inner r.3.node) r.3.was (e.rewritten r.1 r.2)
+returns-clause-own g c = let s = c.args.self.now in let e = c.rewrite_node.ensures in let r = c.requires.can in rewritten_on s.guard.now s.pass c.rewrite_node.new.pass s.list s.memo s.due c.requires.own e.own.0 e.own.1 r.1 c.args.slot c.args.bits (Inner r.3.node) r.3.was (e.rewritten r.1 r.2)
 
 pub returns-clause-rewritten : goal.returns-clause-rewritten
-returns-clause-rewritten g c = λ node reads. let s = c.args.self.now in rewritten_told (view s.pass) (view c.rewrite_node.new.pass) s.renewed s.due s.named node c.args.slot c.args.bits (c.rewrite_node.ensures.rewritten node reads)
+returns-clause-rewritten g c = λ node reads. let s = c.args.self.now in rewritten_told (view s.pass) (view c.rewrite_node.new.pass) s.renewed s.due s.lent node c.args.slot c.args.bits (c.rewrite_node.ensures.rewritten node reads)

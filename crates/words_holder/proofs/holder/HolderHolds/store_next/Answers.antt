@@ -10,7 +10,7 @@ pub store_next-requires-clause-owns : goal.store_next-requires-clause-owns
 store_next-requires-clause-owns g c = inr c.requires.loose
 
 pub returns-clause-own : goal.returns-clause-own
-returns-clause-own g c = let s = c.args.self.now in let e = c.store_next.ensures in link_stored_on g.S.Content.free_slots g.S.Content.memo s.guard.now s.pass c.store_next.new.pass s.free s.memo s.due c.requires.own e.own.0 e.own.1 c.args.slot c.args.link e.stored
+returns-clause-own g c = let s = c.args.self.now in let e = c.store_next.ensures in link_stored_on s.guard.now s.pass c.store_next.new.pass s.list s.memo s.due c.requires.own e.own.0 e.own.1 c.args.slot c.args.link e.stored
 
 pub returns-clause-stored : goal.returns-clause-stored
-returns-clause-stored g c = let s = c.args.self.now in ap (λ v. knows v s.renewed s.due s.named) c.store_next.ensures.stored
+returns-clause-stored g c = let s = c.args.self.now in ap (λ v. knows v s.renewed s.due s.lent) c.store_next.ensures.stored

@@ -48,7 +48,7 @@ returns-clause-own g c =
     let pending = without_level (places z + item z order c.args.lower) (without_level (places z + item z order c.load_position-upper.result) u.known.pending) in
     let left = ap (λ d. without_level (places (shape_in d) + item (shape_in d) order c.args.lower) (without_level (places (shape_in d) + item (shape_in d) order c.load_position-upper.result) u.known.pending)) r.draws
     ∙ due_left v k order level c.requires.can.within c.load_position-upper.result c.args.lower l.there c.requires.lower u.known.pending r.pending in
-    exchanged_on g.S.Content.free_slots g.S.Content.memo s.guard.now s.pass c.store_level-2.new.pass s.free s.memo s.due c.requires.own c.store_level-2.ensures.own.0
+    exchanged_on s.guard.now s.pass c.store_level-2.new.pass s.list s.memo s.due c.requires.own c.store_level-2.ensures.own.0
     (c.store_level-2.ensures.own.1 ∙ c.store_level.ensures.own.1 ∙ c.exchange.ensures.own.1 ∙ ap (λ m. m.1) l.same)
     order level u r c.requires.can.within pending left
     (c.store_level-2.ensures.stored ∙ ap (λ (w : View). with_pending w (without_level (places (shape_in w.draws) + item (shape_in w.draws) order c.args.lower) w.known.pending)) c.store_level.ensures.stored)
@@ -60,4 +60,4 @@ returns-clause-exchanged g c =
     let u = view c.exchange.new.pass in
     let r : HasExchanged c.args.order c.args.level v u = subst (λ m. HasExchanged c.args.order c.args.level m.0 u) c.load_position-upper.ensures.same c.exchange.ensures.exchanged in
     let told = c.store_level-2.ensures.stored ∙ ap (λ (w : View). with_pending w (without_level (places (shape_in w.draws) + item (shape_in w.draws) c.args.order c.args.lower) w.known.pending)) c.store_level.ensures.stored in
-    ap (λ w. knows w s.renewed (Some (record { order = c.args.order; level = c.args.level + 1 })) s.named) told ∙ exchanged_told v u s.renewed s.due s.named c.args.order c.args.level (without_level (places (shape_in u.draws) + item (shape_in u.draws) c.args.order c.args.lower) (without_level (places (shape_in u.draws) + item (shape_in u.draws) c.args.order c.load_position-upper.result) u.known.pending)) r
+    ap (λ w. knows w s.renewed (Some (record { order = c.args.order; level = c.args.level + 1 })) s.lent) told ∙ exchanged_told v u s.renewed s.due s.lent c.args.order c.args.level (without_level (places (shape_in u.draws) + item (shape_in u.draws) c.args.order c.args.lower) (without_level (places (shape_in u.draws) + item (shape_in u.draws) c.args.order c.load_position-upper.result) u.known.pending)) r

@@ -15,4 +15,4 @@ new-requires g c =
     let first = subst (λ (y : Shape × List ℕ). AreFirst y.0 (words_of y.0 y.1)) (λ i. (shape i, sym words i)) c.in_ok-words.ensures.first in
     let pushed : c.push-3.new.self.items ≡ Some c.args.board ∷ Some c.args.free ∷ Some c.args.answers ∷ [] = three_pushed _ _ _ _ _ _ _ c.new-slots.ensures.items c.in_ok-push.ensures.items c.in_ok-push-2.ensures.items c.in_ok-push-3.ensures.items in
     subst (λ l. Rule g.S.Content.board g.S.Content.free_slots g.S.Content.memo (record { words = c.as_slice.result.now; homes = map some l; views = first_view c.args.key.now ∷ [] })) (sym pushed)
-    (begins g.S.Content.board g.S.Content.free_slots g.S.Content.memo c.args.key.now c.as_slice.result.now c.args.board c.args.free c.args.answers c.requires.few.0 c.requires.few.1 c.requires.few.2 c.requires.room long first c.requires.cells c.requires.empty c.requires.free c.requires.roomy c.requires.places c.requires.blank)
+    (begins g.S.Content.board g.S.Content.free_slots g.S.Content.memo c.args.key.now c.as_slice.result.now c.args.board c.args.free c.args.answers c.requires.few.0 c.requires.few.1 c.requires.few.2 c.requires.room long first c.requires.cells c.requires.free c.requires.roomy c.requires.places c.requires.blank)

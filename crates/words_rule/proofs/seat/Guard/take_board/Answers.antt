@@ -7,4 +7,4 @@ pub compare_exchange-found-requires : goal.compare_exchange-found-requires
 compare_exchange-found-requires g c = (search rules, (let w = c.args.pass.now.words_are in let s = ap (λ i. i.words) c.requires.own.0 in omega (arith, w, s)), call_take_board g.S.Content.board g.S.Content.free_slots g.S.Content.memo _ _ c.args.pass.now.seat.me _ (let n = c.args.pass.now.number_is.0 in omega (arith, n)) c.requires.own.1)
 
 pub exchange-requires : goal.exchange-requires
-exchange-requires g c = let t = c.compare_exchange-found.ensures.2.0 c.if-found-eq0.true in let e = ap (λ m. m.1) t.1 in (search rules, (Some t.0, e ∙ ap (λ l. (0, Some t.0) ∷ l) (sym (ap rest e))))
+exchange-requires g c = let t = c.compare_exchange-found.ensures.2.0 c.if-found-eq0.true in let e = ap (λ m. m.1) t.3 in (search rules, (Some t.0, e ∙ ap (λ l. (0, Some t.0) ∷ l) (sym (ap rest e))))
