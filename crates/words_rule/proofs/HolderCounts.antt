@@ -7,10 +7,9 @@ use mathlib.Core.Option.{none, some, some-injective}
 use native.Mathlib.Decide.{ℕ_discrete}
 use lib.ListN.{get_elem?}
 use lib.Seq.{set-get_or}
-use Rattle.atomic_table.specs.Table.{State, Me, step, stepped, keeps, Allows}
+use Rattle.atomic_table.specs.Table.{State, Me, step, keeps, Allows}
 use Rattle.atomic_table.proofs.Lists.{at_map}
 use Rattle.edge_bits.specs.declared.words.Word.{Word}
-use Rattle.function_laws.specs.declared.history.Function.{Function}
 use Rattle.function_laws.specs.SessionEntries.{Each}
 use Rattle.handle_count.specs.CountWords.{count_of, generation_of}
 use Rattle.node_store.specs.Contents.{IsSound, IsUsed}
@@ -22,7 +21,6 @@ use Rattle.words_rule.specs.declared.view.Hold.TheVariants.{Holding}
 use Rattle.words_rule.specs.declared.view.SlotCount.{SlotCount}
 use Rattle.words_rule.specs.declared.view.SlotGeneration.{SlotGeneration}
 use Rattle.words_rule.specs.declared.view.View.{View}
-use Rattle.words_rule.specs.CountLoads.{HasCounted}
 use Rattle.words_rule.specs.HeldContents.{KnowsAll, ages_without, held_content, noted_age, noted_count, numbers_without, or_zero, with_age, with_count}
 use Rattle.words_rule.specs.Holders.{IsAge}
 use Rattle.words_rule.specs.HolderPlays.{HasFound, HasPinned, HasRenewed, count_found, generation_stored, slot_pinned, slot_unpinned}
@@ -32,7 +30,6 @@ use Rattle.words_rule.specs.Phase.{footing_of}
 use Rattle.words_rule.specs.Rule.{Parts, Rule, footings_in, tallies_in}
 use Rattle.words_rule.specs.Shapes.{shape_in}
 use Rattle.words_rule.specs.Tallies.{one_if, refs, tally_of, times}
-use Rattle.words_rule.proofs.CountLoads.{loads_count}
 use Rattle.words_rule.proofs.CountSteps.{down_count, down_generation, ends, few, held_some, home, is_count, n, new_count, others, still, up_count, up_generation, ws}
 use Rattle.words_rule.proofs.Generating.{parts_generation}
 use Rattle.words_rule.proofs.HeldNotes.{never_among}
@@ -325,21 +322,21 @@ module _ {S : Type 0} (board : S → List (std.Option Cell)) (free_slots : S →
         let right = age_true (IsAge (words_of r.shape s.words).count) me.0.known.ages ((r.parts.holders id me.0 at).0 holding) k g.0 g.1 in
         ap generation_of (sym (is_count board free_slots memo slots id me live s r at k inside)) ∙ right ∙ ap or_zero (sym g.1)
 
-    -- the view with the count noted, and these zeros and functions of counted slots
-    abbrev noting : List ℕ → List Function → View
-    noting zeros above = record me.0 { counts = record me.0.counts { zeros = zeros; above = above }; work = record me.0.work { counts = with_count k count me.0.work.counts } }
+    -- the view with the count noted, and these zeros
+    abbrev noting : List ℕ → View
+    noting zeros = record me.0 { counts = record me.0.counts { zeros = zeros }; work = record me.0.work { counts = with_count k count me.0.work.counts } }
 
-    noting_content : (zeros : List ℕ) (above : List Function) → held_content (noting zeros above) ≡ record (held_content me.0) { count = put_at (held_content me.0).count k count }
-    noting_content zeros above = λ i. record (held_content me.0) {
-      count = put_is (held_content me.0).count (held_content (noting zeros above)).count k count (ap or_zero (count_here k count me.0.work.counts)) (λ t ne. ap or_zero (count_apart k count t me.0.work.counts ne)) i;
+    noting_content : (zeros : List ℕ) → held_content (noting zeros) ≡ record (held_content me.0) { count = put_at (held_content me.0).count k count }
+    noting_content zeros = λ i. record (held_content me.0) {
+      count = put_is (held_content me.0).count (held_content (noting zeros)).count k count (ap or_zero (count_here k count me.0.work.counts)) (λ t ne. ap or_zero (count_apart k count t me.0.work.counts ne)) i;
     }
 
     -- it knows the whole store, where a count of 0 is among the zeros, which are true
-    has_found : (zeros : List ℕ) (above : List Function) → (count ≡ 0 → 0 < times k zeros) → ((j : ℕ) → 0 < times j me.0.counts.zeros → 0 < times j zeros)
-        → ((j : ℕ) → 0 < times j zeros → (0 < times j me.0.counts.zeros) ⊎ ((j ≡ k) × (refs k (tally_of me.0) ≡ pins))) → HasFound k found me.0 (noting zeros above)
-    has_found zeros above here kept true_ones =
+    has_found : (zeros : List ℕ) → (count ≡ 0 → 0 < times k zeros) → ((j : ℕ) → 0 < times j me.0.counts.zeros → 0 < times j zeros)
+        → ((j : ℕ) → 0 < times j zeros → (0 < times j me.0.counts.zeros) ⊎ ((j ≡ k) × (refs k (tally_of me.0) ≡ pins))) → HasFound k found me.0 (noting zeros)
+    has_found zeros here kept true_ones =
         let w = held_content me.0 in
-        let same = noting_content zeros above in record {
+        let same = noting_content zeros in record {
           is = refl;
           count = count;
           counted = counted_now;
@@ -408,7 +405,7 @@ module _ {S : Type 0} (board : S → List (std.Option Cell)) (free_slots : S →
       (λ alone.
       let own : refs k (tally_of me.0) ≡ p = omega (arith, alone, a, b) in
       let zeros : List ℕ = k ∷ me.0.counts.zeros in
-      let u : View = noting s r id me at live holding all k inside slots zeros me.0.counts.above in
+      let u : View = noting s r id me at live holding all k inside slots zeros in
       let v1 : View = record me.0 { counts = record me.0.counts { zeros = zeros } } in
       let parts = parts_own board free_slots memo r.shape (words_of r.shape s.words) (λ (j : ℕ). get_elem? s.homes j) s.views r.parts id me.0 at k holding (same ∙ alone ∙ sym own) in
       let s1 : State (std.Option S) View = record { words = s.words; homes = s.homes; views = set s.views id v1 } in
@@ -418,30 +415,19 @@ module _ {S : Type 0} (board : S → List (std.Option Cell)) (free_slots : S →
         keeps,
         tt,
         subst (λ (y : List ℕ × List View). TheRule (record { words = y.0; homes = s.homes; views = y.1 })) (λ j. (sym (set-get_or s.words i 0) j, set_set s.views id v1 u j)) r2,
-        (refl, refl, (λ j same_word. subst (λ (t : ℕ). HasFound t x me.0 u) (one j same_word) (has_found s r id me at live holding all k inside slots zeros me.0.counts.above (λ _. zero_first k me.0.counts.zeros) (λ j some_times. more_zeros k j me.0.counts.zeros some_times) (λ j some_times. zero_or k j me.0.counts.zeros (refs k (tally_of me.0) ≡ p) own some_times)))),
+        (refl, refl, (λ j same_word. subst (λ (t : ℕ). HasFound t x me.0 u) (one j same_word) (has_found s r id me at live holding all k inside slots zeros (λ _. zero_first k me.0.counts.zeros) (λ j some_times. more_zeros k j me.0.counts.zeros some_times) (λ j some_times. zero_or k j me.0.counts.zeros (refs k (tally_of me.0) ≡ p) own some_times)))),
       ))
       -- others count it too
       (λ more.
-      let some_count : count_of x ≢ 0 = λ no_count. more (omega (arith, no_count, a, b)) in
       let some_left : count s r id me at live holding all k inside slots ≡ 0 → ⊥ = λ no_count. more (omega (arith, no_count, a, b)) in
-      let y = loads_count board free_slots memo slots id me i k refl inside live holding s r long at small in
-      let h : HasCounted k (count_of x) me.0 y.0 = y.4.2 k refl in
-      let above = above_of (times k me.0.counts.pins) me.0 y.0 k (count_of x) h some_count refl in
-      let u : View = noting s r id me at live holding all k inside slots me.0.counts.zeros above.0 in
-      let s1 : State (std.Option S) View = stepped s i x id me.1 y.0 y.1 in
-      let r2 = rule_work board free_slots memo s1 id y.0 (set_at s.views id me.0 y.0 at) u.work y.3 in
-      let is_u : record y.0 { work = u.work } ≡ u = ap (λ (v : View). record v { work = u.work }) above.1 in (
+      let u : View = noting s r id me at live holding all k inside slots me.0.counts.zeros in
+      let r1 = rule_work board free_slots memo s id me.0 at u.work r in (
         u,
-        y.1,
-        y.2,
-        subst (λ (l : List View). TheRule (record { words = s1.words; homes = s1.homes; views = l })) (set_set s.views id y.0 (record y.0 { work = u.work }) ∙ ap (λ (v : View). set s.views id v) is_u) r2,
-        (refl, y.4.1, (λ j same_word. subst (λ (t : ℕ). HasFound t x me.0 u) (one j same_word) (has_found s r id me at live holding all k inside slots me.0.counts.zeros above.0 (λ no_count. absurd (some_left no_count)) (λ j some_times. some_times) (λ j some_times. inl some_times)))),
+        keeps,
+        tt,
+        subst (λ (l : List ℕ). TheRule (record { words = l; homes = s.homes; views = set s.views id u })) (sym (set-get_or s.words i 0)) r1,
+        (refl, refl, (λ j same_word. subst (λ (t : ℕ). HasFound t x me.0 u) (one j same_word) (has_found s r id me at live holding all k inside slots me.0.counts.zeros (λ no_count. absurd (some_left no_count)) (λ j some_times. some_times) (λ j some_times. inl some_times)))),
       )))
-    where
-      -- what was found is noted, or nothing, where the seat itself pinned the slot
-      above_of : (p : ℕ) (v u : View) (k m : ℕ) → HasCounted k m v u → m ≢ 0 → times k v.counts.pins ≡ p → (above : List Function) × (u ≡ record v { counts = record v.counts { zeros = v.counts.zeros; above = above } })
-      above_of zero v u k m h some_count is = let a = h.some some_count is in (a.function ∷ v.counts.above, a.is)
-      above_of (suc p) v u k m h some_count is = (v.counts.above, h.pinned some_count (λ no_pin. omega (arith, is, no_pin)))
 
   -- the new generation of a slot that nothing holds
   pub renews : (slots id word : ℕ) (me : Sat) (k x : ℕ) → word ≡ count_at (shape_in me.0.draws) k → x < 18446744073709551616 → me.0.draws.live ≡ true → me.0.shares.order ≡ Holding → KnowsAll me.0 → k < me.0.draws.slots → (held_content me.0).count k ≡ 0 → (held_content me.0).pinned k ≡ false → count_of x ≡ 0

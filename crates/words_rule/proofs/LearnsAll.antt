@@ -10,6 +10,7 @@ use lib.Seq.{set-get_or}
 use Rattle.atomic_table.specs.Table.{Me, step, keeps, Allows}
 use Rattle.atomic_table.proofs.Lists.{at_map, set_else}
 use Rattle.edge_bits.specs.declared.words.Word.{Word}
+use Rattle.function_laws.specs.declared.history.Function.{Function}
 use Rattle.function_laws.specs.Kinds.{Denoted}
 use Rattle.function_laws.specs.SessionEntries.{Each}
 use Rattle.function_laws.specs.Sizes.{Orders}
@@ -33,16 +34,19 @@ use Rattle.words_rule.specs.Halves.{half_in, pair_of}
 use Rattle.words_rule.specs.Phase.{footing_of}
 use Rattle.words_rule.specs.HeldContents.{KnowsAll, held_content, noted_age, noted_count, or_zero}
 use Rattle.words_rule.specs.Holders.{IsAge}
-use Rattle.words_rule.specs.HolderPlays.{all_learnt}
+use Rattle.words_rule.specs.HolderPlays.{NotesCounted, NotesStay, all_learnt}
+use Rattle.words_rule.specs.Moves.{HasNoted}
 use Rattle.words_rule.specs.Ordered.{KnowsOrders}
 use Rattle.words_rule.specs.Rule.{FullHolder, HalfHolder, Parts, Rule, footings_in, tallies_in}
-use Rattle.words_rule.specs.Seen.{StandsSo}
+use Rattle.words_rule.specs.Seen.{HasShare, KeepsSlots, StandsSo}
 use Rattle.words_rule.specs.Tallies.{one_if, times}
 use Rattle.words_rule.proofs.CountLoads.{counted_denotes, none_own}
+use Rattle.words_rule.proofs.CountedNotes.{each_noted, noted_below, noted_stays, noted_there}
 use Rattle.words_rule.proofs.Draws.{by_full, by_pending}
 use Rattle.words_rule.proofs.HolderKnows.{counted, decoded}
-use Rattle.words_rule.proofs.Learning.{below, parts_noting, with_notes, words_at}
+use Rattle.words_rule.proofs.Learning.{below, noting_function, parts_noting, with_notes, words_at}
 use Rattle.words_rule.proofs.Lists.{each_set, set_at}
+use Rattle.words_rule.proofs.Noting.{MayNote, may_note, parts_noted}
 use Rattle.words_rule.proofs.Pinning.{parts_zero}
 use Rattle.words_rule.proofs.Phases.{one_order}
 use Rattle.words_rule.proofs.Rewrites.{order_by_full, parts_known}
@@ -239,6 +243,14 @@ module _ {S : Type 0} (board : S → List (std.Option Cell)) (free_slots : S →
         (by_full (r.half ≡ None) vs id v w at refl r.half_by) (by_pending r.pending vs id v w at refl refl r.pending_by)
         (record { words = (r.seen id v at).words; held = (r.seen id v at).held }) (right, (r.holders id v at).1) (λ i u apart there. r.holders i u there)
 
+    -- who holds the order notes the functions of all slots that are counted
+    parts_counted : (function : ℕ → std.Option Denoted) → r.function ≡ function → v.draws.live ≡ true → v.shares.order ≡ Holding → v.counts.pins ≡ [] → (n : ℕ)
+        → PartsOf z ws home (set vs id (record v { counts = record v.counts { above = noted_below z function ws.count n v.counts.above } }))
+    parts_counted function same live holding unpinned n = parts_noted board free_slots memo z ws home vs r id v at (noted_below z function ws.count n v.counts.above)
+        (each_noted z function ws.count v.counts.above (MayNote board free_slots memo z ws home vs r id v at)
+        (λ s f is lt. may_note board free_slots memo z ws home vs r id v at s f live holding (ap (times s) unpinned) (ap (λ (g : ℕ → std.Option Denoted). g s) same ∙ is) lt)
+        (r.sifts.noted id v at live) n)
+
     -- who holds the order, and knows of no swap, beside it none is half made
     settled_order : v.shares.order ≡ Holding → v.known.half ≡ None → r.half ≡ None
     settled_order holding noted = ⊎_elim (λ is. is) (λ (y : HalfHolder r.half vs).
@@ -279,25 +291,38 @@ module _ {S : Type 0} (board : S → List (std.Option Cell)) (free_slots : S →
     abbrev counts : List SlotCount
     counts = counts_at ws.count (below n)
 
+    abbrev above : List Function
+    above = noted_below z r.function ws.count n v.counts.above
+
     abbrev v1 : View
     v1 = with_notes v words seen
 
     abbrev v2 : View
-    v2 = record v1 { known = record v1.known { ages = ages } }
+    v2 = record v1 { counts = record v1.counts { above = above } }
 
     abbrev v3 : View
-    v3 = record v2 { counts = record v2.counts { zeros = zeros } }
+    v3 = record v2 { known = record v2.known { ages = ages } }
+
+    abbrev v4 : View
+    v4 = record v3 { counts = record v3.counts { zeros = zeros } }
 
     abbrev pub learnt : View
-    learnt = record v3 { work = record v3.work { counts = counts } }
+    learnt = record v4 { work = record v4.work { counts = counts } }
+
+    stand : HasShare v → Each (StandsSo ws.node v) words
+    stand _ = each_word ws.node (StandsSo ws.node v) (λ s. (refl, λ _. holding)) (below n)
+
+    are_held : KeepsSlots v → Each (IsHeldBy z r.function) seen
+    are_held _ = each_seen z r.function (below n)
 
     pub parts_learnt : PartsOf z ws home (set vs id learnt)
     parts_learnt =
-        let r1 = parts_noting board free_slots memo z ws home vs r id v at words seen (λ _. each_word ws.node (StandsSo ws.node v) (λ s. (refl, λ _. holding)) (below n)) (λ _. each_seen z r.function (below n)) in
-        let at1 = set_at vs id v v1 at in
-        let r2 = subst (PartsOf z ws home) (set_set vs id v1 v2) (parts_aging z ws home (set vs id v1) r1 id v1 at1 ages (λ _. each_age ws.count (below n))) in
-        let r3 = subst (PartsOf z ws home) (set_set vs id v2 v3) (parts_zeros z ws home (set vs id v2) id v2 (set_at vs id v v2 at) holding v.counts.zeros n (subst (PartsOf z ws home) (sym (set_set vs id v2 v2)) r2)) in
-        subst (PartsOf z ws home) (set_set vs id v3 learnt) (parts_work board free_slots memo z ws home (set vs id v3) r3 id v3 (set_at vs id v v3 at) (record v3.work { counts = counts }))
+        let r1 = parts_noting board free_slots memo z ws home vs r id v at words seen stand are_held in
+        let same = noting_function board free_slots memo z ws home vs r id v at words seen stand are_held in
+        let r2 = subst (PartsOf z ws home) (set_set vs id v1 v2) (parts_counted z ws home (set vs id v1) r1 id v1 (set_at vs id v v1 at) r.function same live holding unpinned n) in
+        let r3 = subst (PartsOf z ws home) (set_set vs id v2 v3) (parts_aging z ws home (set vs id v2) r2 id v2 (set_at vs id v v2 at) ages (λ _. each_age ws.count (below n))) in
+        let r4 = subst (PartsOf z ws home) (set_set vs id v3 v4) (parts_zeros z ws home (set vs id v3) id v3 (set_at vs id v v3 at) holding v.counts.zeros n (subst (PartsOf z ws home) (sym (set_set vs id v3 v3)) r3)) in
+        subst (PartsOf z ws home) (set_set vs id v4 learnt) (parts_work board free_slots memo z ws home (set vs id v4) r4 id v4 (set_at vs id v v4 at) (record v4.work { counts = counts }))
 
     abbrev w : Content
     w = content_of z ws.node r.orders r.function r.half
@@ -374,6 +399,15 @@ module _ {S : Type 0} (board : S → List (std.Option Cell)) (free_slots : S →
       half = (ap (option_map pair_of) unswapped ∙ sym none_half) i;
     }
 
+    notes_learnt : NotesCounted learnt
+    notes_learnt s f counted is = subst (λ (y : Shape). HasNoted learnt.counts (whole_of y f)) shape (elim (cases_lt s n) [
+      | inl lt ↦ noted_there z r.function ws.count v.counts.above n s f lt (subst (λ (m : ℕ). 0 < m) (count_here s lt) counted) (sym (function_same s) ∙ is)
+      | inr le ↦ absurd (let e = count_behind s le in omega (arith, e, counted))
+    ])
+
+    stays_learnt : NotesStay v learnt
+    stays_learnt = noted_stays z r.function ws.count v.counts.above n
+
     knows_learnt : KnowsAll learnt
     knows_learnt = record {
       sound = subst IsSound (sym content_same) (sound_counted w c (held_content learnt).generation (held_content learnt).pinned r.sound
@@ -423,5 +457,18 @@ module _ {S : Type 0} (board : S → List (std.Option Cell)) (free_slots : S →
         tt,
         subst (λ (l : List ℕ). Rule board free_slots memo (record { words = l; homes = s.homes; views = set s.views id u })) (sym (set-get_or s.words 1 0))
             (record { shape = z; wide = r.wide; long = r.long; parts = parts_learnt z ws home s.views p id v at live holding unpinned unzeroed unswapped none_half }),
-        (refl, record { draws = refl; shares = refl; hand = refl; counts = refl; known = refl; work = refl; knows = knows_learnt z ws home s.views p id v at live holding unpinned unzeroed unswapped none_half }),
+        (
+          refl,
+          record {
+            draws = refl;
+            shares = refl;
+            hand = refl;
+            counts = refl;
+            known = refl;
+            work = refl;
+            knows = knows_learnt z ws home s.views p id v at live holding unpinned unzeroed unswapped none_half;
+            above = notes_learnt z ws home s.views p id v at live holding unpinned unzeroed unswapped none_half;
+            stays = stays_learnt z ws home s.views p id v at live holding unpinned unzeroed unswapped none_half;
+          },
+        ),
       )

@@ -69,6 +69,7 @@ pub mod Aparts
 pub mod FullSteps
 pub mod CountSteps
 pub mod CountLoads
+pub mod CountedNotes
 pub mod LearnsAll
 pub mod HolderLoads
 pub mod Unlinks

@@ -9,6 +9,7 @@ use Rattle.edge_bits.specs.declared.edges.Kind.{Kind}
 use Rattle.edge_bits.specs.declared.words.Node.{Node}
 use Rattle.edge_bits.specs.declared.words.Word.{Word}
 use Rattle.edge_bits.specs.declared.words.Word.TheVariants.{Inner}
+use Rattle.function_laws.specs.declared.history.Function.{Function}
 use Rattle.function_laws.specs.declared.orders.Order.{Order}
 use Rattle.function_laws.specs.Kinds.{Denoted, function_of}
 use Rattle.function_laws.specs.Sizes.{in_order}
@@ -24,21 +25,33 @@ use Rattle.words_rule.specs.declared.view.Walk.{Walk}
 use Rattle.words_rule.specs.Exchanges.{dues_of, position}
 use Rattle.words_rule.specs.Hands.{HasLevel, freeing, level_of, loosening, without_level}
 use Rattle.words_rule.specs.HeldContents.{KnowsAll, held_bits, held_content, numbers_without}
+use Rattle.words_rule.specs.Kept.{whole_of}
 use Rattle.words_rule.specs.Layout.{count_at, head_at, head_of, next_at, node_at, order_at}
+use Rattle.words_rule.specs.Moves.{HasNoted}
 use Rattle.words_rule.specs.Shapes.{shape_in}
 use Rattle.words_rule.specs.Tallies.{one_if}
 use Rattle.words_rule.specs.Views.{orders_of, told_orders}
 use Rattle.free_list.specs.FreeSlots.{FreeSlots}
 
--- It learns the whole store: its notes of nodes, generations and counts change alone.
+-- in the store that it knows, the function of each slot that is counted is noted
+abbrev pub NotesCounted : View → Type 0
+NotesCounted v = (s : ℕ) (f : Denoted) → 0 < (held_content v).count s → (held_content v).function s ≡ Some f → HasNoted v.counts (whole_of (shape_in v.draws) f)
+
+-- what was noted of counted slots is so still
+abbrev pub NotesStay : View → View → Type 0
+NotesStay v u = (f : Function) → HasNoted v.counts f → HasNoted u.counts f
+
+-- It learns the whole store: its notes of nodes, generations, counts and counted functions change alone.
 pub record HasLearnt (v u : View) : Type 0 where
   pub draws : u.draws ≡ v.draws
   pub shares : u.shares ≡ v.shares
   pub hand : u.hand ≡ v.hand
-  pub counts : u.counts ≡ record v.counts { zeros = u.counts.zeros }
+  pub counts : u.counts ≡ record v.counts { zeros = u.counts.zeros; above = u.counts.above }
   pub known : u.known ≡ record v.known { words = u.known.words; seen = u.known.seen; ages = u.known.ages }
   pub work : u.work ≡ record v.work { counts = u.work.counts }
   pub knows : KnowsAll u
+  pub above : NotesCounted u
+  pub stays : NotesStay v u
 
 -- The chain of a head as it stands: slots in use, among them all of the head and of the level, but for one that is on no chain.
 pub record IsWholeChain (v : View) (head level : ℕ) (chain : List ℕ) : Type 0 where
@@ -111,7 +124,7 @@ pub record HasFreed (list : List ℕ) (slot : ℕ) (v u : View) : Type 0 where
 
 -- a count word was found: its low half counts the seat's own pin too
 pub record HasFound (slot n : ℕ) (v u : View) : Type 0 where
-  pub is : u ≡ record v { counts = record v.counts { zeros = u.counts.zeros; above = u.counts.above }; work = record v.work { counts = u.work.counts } }
+  pub is : u ≡ record v { counts = record v.counts { zeros = u.counts.zeros }; work = record v.work { counts = u.work.counts } }
   pub count : ℕ
   pub counted : count_of n ≡ count + one_if ((held_content v).pinned slot)
   pub content : held_content u ≡ record (held_content v) { count = put_at (held_content v).count slot count }

@@ -11,7 +11,7 @@ use crate::seat::{Guard, Pass};
 
 impl<S: Content> Guard<S> {
     /// Looks at the phase word. Under the order hold the seat knows from then on the words of all slots, what they denote, their
-    /// generations and counts.
+    /// generations and counts. The functions of all slots that are counted are noted.
     pub fn learn(&self, pass: &mut Pass<S>)
         requires own { IsLiveOf self.now pass.old }
         requires hold { (view pass.old).shares.order ≡ Holding }
