@@ -9,7 +9,6 @@ use Rattle.step_store.specs.Chains.{Lists}
 use Rattle.words_holder.specs.declared.holder.Due.{Due}
 use Rattle.words_holder.specs.declared.holder.Lent.{Lent}
 use Rattle.words_holder.specs.Holders.{HoldsTable, IsHolderAt, IsSpareRoom, dues_in, knows, pending_of, rest_of}
-use Rattle.words_holder.proofs.Holding.{rest_same}
 use Rattle.words_rule.specs.declared.seat.Guard.{Guard}
 use Rattle.words_rule.specs.declared.seat.Pass.{Pass}
 use Rattle.words_rule.specs.declared.view.Draws.{Draws}
@@ -23,7 +22,7 @@ use Rattle.words_rule.specs.Hands.{IsIdle}
 use Rattle.words_rule.specs.Holds.{IsUnswapped}
 use Rattle.words_rule.specs.Shapes.{shape_in}
 use Rattle.words_rule.proofs.HandClauses.{none_back}
-use Rattle.words_rule.specs.HolderPlays.{AreFreeSlots, HasLearnt}
+use Rattle.words_rule.specs.HolderPlays.{AreFreeSlots, HasLearnt, NotesCounted, NotesStay}
 use Rattle.words_rule.specs.HeldContents.{held_content}
 use Rattle.words_rule.specs.Known.{link_of, walk_of}
 use Rattle.words_rule.specs.Passes.{view, in_hand, IsLiveOf, IsPassOf}
@@ -79,8 +78,14 @@ module _ {S : Type 0} (g : Guard S) (p q : Pass S) (learnt : View) (list : FreeS
       no_due : (d : Due) → None ≡ Some d → ⊥
       no_due d e = cc
 
-  pub first_rest : HasLearnt Old learnt → view q ≡ with_both list learnt → rest_of (view q) ≡ rest_of Old
-  first_rest l is = ap rest_of is ∙ rest_same Old learnt l.draws (ap (λ c. c.raised) l.counts) (ap (λ c. c.owed) l.counts) (ap (λ c. c.generations) l.counts) (ap (λ k. k.told_variables) l.known) (ap (λ k. k.told_elements) l.known)
+  pub first_rest : HasLearnt Old learnt → view q ≡ with_both list learnt → rest_of (view q) ≡ record (rest_of Old) { above = (view q).counts.above }
+  first_rest l is = ap rest_of is ∙ rest_now ∙ ap (λ (v : View). record (rest_of Old) { above = v.counts.above }) (sym is)
+    where
+      rest_now : rest_of learnt ≡ record (rest_of Old) { above = learnt.counts.above }
+      rest_now = λ i. record { draws = l.draws i; raised = (l.counts i).raised; owed = (l.counts i).owed; above = learnt.counts.above; generations = (l.counts i).generations; told_variables = (l.known i).told_variables; told_elements = (l.known i).told_elements }
+
+  pub first_noted : HasLearnt Old learnt → view q ≡ with_both list learnt → NotesCounted (view q) × NotesStay Old (view q)
+  first_noted l is = subst (λ (v : View). NotesCounted v × NotesStay Old v) (sym is) (l.above, l.stays)
 
   pub first_idle : IsIdle Old.hand → Old.hand.levels ≡ [] → Old.hand.link ≡ None → HasLearnt Old learnt → view q ≡ with_both list learnt → (knows (view q) None None nothing_lent).hand ≡ held.idle
   first_idle idle levels_none link l is = ap (λ (v : View). (knows v None None nothing_lent).hand) is

@@ -77,12 +77,12 @@ pinned_within v k s pinned = by ((held_content v).word s) refl
         differ e = cc
 
 -- what a step that only changes these leaves of the rest
-pub rest_same : (v u : View) → u.draws ≡ v.draws → u.counts.raised ≡ v.counts.raised → u.counts.owed ≡ v.counts.owed → u.counts.generations ≡ v.counts.generations → u.known.told_variables ≡ v.known.told_variables → u.known.told_elements ≡ v.known.told_elements
+pub rest_same : (v u : View) → u.draws ≡ v.draws → u.counts.raised ≡ v.counts.raised → u.counts.owed ≡ v.counts.owed → u.counts.above ≡ v.counts.above → u.counts.generations ≡ v.counts.generations → u.known.told_variables ≡ v.known.told_variables → u.known.told_elements ≡ v.known.told_elements
     → rest_of u ≡ rest_of v
-rest_same v u draws raised owed generations variables elements = λ i. record { draws = draws i; raised = raised i; owed = owed i; generations = generations i; told_variables = variables i; told_elements = elements i }
+rest_same v u draws raised owed above generations variables elements = λ i. record { draws = draws i; raised = raised i; owed = owed i; above = above i; generations = generations i; told_variables = variables i; told_elements = elements i }
 
 pub rest_still : (v u : View) → IsHolderStill v u → rest_of u ≡ rest_of v
-rest_still v u s = rest_same v u s.draws (ap (λ c. c.raised) s.counts) (ap (λ c. c.owed) s.counts) (ap (λ c. c.generations) s.counts) (ap (λ o. o.variables) s.told) (ap (λ o. o.elements) s.told)
+rest_still v u s = rest_same v u s.draws (ap (λ c. c.raised) s.counts) (ap (λ c. c.owed) s.counts) (ap (λ c. c.above) s.counts) (ap (λ c. c.generations) s.counts) (ap (λ o. o.variables) s.told) (ap (λ o. o.elements) s.told)
 
 -- free slots of another store with the same words
 pub free_same : (w new : Content) (list : List ℕ) → new.limit ≡ w.limit → new.word ≡ w.word → AreFreeSlots w list → AreFreeSlots new list

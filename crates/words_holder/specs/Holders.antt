@@ -90,4 +90,4 @@ pub record IsHolderAt {S : Type 0} (g : Guard S) (p : Pass S) (list : FreeSlots)
 
 -- what no step of a holder changes
 abbrev pub rest_of : View → HolderRest
-rest_of v = record { draws = v.draws; raised = v.counts.raised; owed = v.counts.owed; generations = v.counts.generations; told_variables = v.known.told_variables; told_elements = v.known.told_elements }
+rest_of v = record { draws = v.draws; raised = v.counts.raised; owed = v.counts.owed; above = v.counts.above; generations = v.counts.generations; told_variables = v.known.told_variables; told_elements = v.known.told_elements }

@@ -2,6 +2,7 @@
 ghost use Rattle.std.specs.Prelude.{◌≡◌, [], None};
 ghost use Rattle.hold_store.specs.Held.{idle};
 ghost use Rattle.words_holder.specs.Holders.{IsHolderAt, IsSpareRoom, knows, rest_of};
+ghost use Rattle.words_rule.specs.HolderPlays.{NotesCounted, NotesStay};
 ghost use Rattle.words_rule.specs.Holds.{IsFullHold};
 ghost use Rattle.words_rule.specs.Passes.{in_hand, view};
 
@@ -9,6 +10,7 @@ use crate::holder_shelf::HolderShelf;
 use crate::told_steps;
 use computed_cache::Memo;
 use free_list::FreeList;
+use function_laws::Function;
 use hold_store::{HolderRoom, Holds};
 use node_store::Order;
 use std::collections::LinkedList;
@@ -31,6 +33,7 @@ pub struct HolderRest {
     pub draws: Draws,
     pub raised: LinkedList<Held>,
     pub owed: LinkedList<Held>,
+    pub above: LinkedList<Function>,
     pub generations: LinkedList<SlotGeneration>,
     pub told_variables: LinkedList<u32>,
     pub told_elements: LinkedList<u32>,
@@ -237,7 +240,7 @@ impl<'a, S: HolderShelf> Holds for Holder<'a, S> {
 }
 
 impl<'a, S: HolderShelf> Holder<'a, S> {
-    /// The seat of both holds as a holder of its table, and the room for what he notes: it learns the store, and waits for the free list and for the computed table, whose answers it drops.
+    /// The seat of both holds as a holder of its table, and the room for what he notes: it learns the store, and waits for the free list and for the computed table, whose answers it drops. The functions of all slots that are counted are noted then.
     pub fn new<R: Wait>(
         rt: &R,
         guard: &'a Guard<S>,
@@ -248,7 +251,8 @@ impl<'a, S: HolderShelf> Holder<'a, S> {
         requires idle { ((view hold.pass).hand.levels ≡ []) × ((view hold.pass).hand.free ≡ None) × ((view hold.pass).hand.link ≡ None) }
         requires empty { in_hand hold.pass ≡ [] }
         ensures holds { IsHolderAt result.0.guard.now result.0.pass result.0.list result.0.memo result.0.due }
-        ensures home { (result.0.pass.seat.table_id ≡ hold.pass.seat.table_id) × (rest_of (view result.0.pass) ≡ rest_of (view hold.pass)) }
+        ensures home { (result.0.pass.seat.table_id ≡ hold.pass.seat.table_id) × (rest_of (view result.0.pass) ≡ record (rest_of (view hold.pass)) { above = (view result.0.pass).counts.above }) }
+        ensures noted { NotesCounted (view result.0.pass) × NotesStay (view hold.pass) (view result.0.pass) }
         ensures idle { (knows (view result.0.pass) result.0.renewed result.0.due result.0.lent).hand ≡ idle }
         ensures room { IsSpareRoom (view result.0.pass).draws.slots result.1 }
     {

@@ -1,5 +1,5 @@
 use Rattle.std.proofs.Common.{◌≡◌, ◌∙◌, ◌∷◌, ◌<◌, None, Some, ap, subst, sym}
-use Rattle.words_holder.proofs.Firsts.{first_idle, first_on, first_rest, spare_room}
+use Rattle.words_holder.proofs.Firsts.{first_idle, first_noted, first_on, first_rest, spare_room}
 use Rattle.words_rule.specs.HeldContents.{KnowsAll, held_content}
 use Rattle.words_rule.specs.HolderPlays.{AreFreeSlots}
 use Rattle.words_rule.specs.Passes.{view}
@@ -38,6 +38,12 @@ returns-clause-home g c =
     let a = c.await_list-list.ensures in
     let list = c.await_list-list.result.0 in
     (a.own.0 ∙ sym c.requires.own.0.0, first_rest c.args.guard.now h.pass c.await_list-list.new.pass (view c.learn.new.pass) list c.learn.ensures.learnt (a.taken ∙ ap (λ (v : View). record v { hand = record v.hand { free = Some list.slots } }) m.taken))
+
+pub returns-clause-noted : goal.returns-clause-noted
+returns-clause-noted g c =
+    let h = c.args.hold in
+    let list = c.await_list-list.result.0 in
+    first_noted c.args.guard.now h.pass c.await_list-list.new.pass (view c.learn.new.pass) list c.learn.ensures.learnt (c.await_list-list.ensures.taken ∙ ap (λ (v : View). record v { hand = record v.hand { free = Some list.slots } }) c.await_memo-memo.ensures.taken)
 
 pub returns-clause-idle : goal.returns-clause-idle
 returns-clause-idle g c =
