@@ -248,7 +248,7 @@ module _ {S : Type 0} (board : S → List (std.Option Cell)) (free_slots : S →
         → PartsOf z ws home (set vs id (record v { counts = record v.counts { above = noted_below z function ws.count n v.counts.above } }))
     parts_counted function same live holding unpinned n = parts_noted board free_slots memo z ws home vs r id v at (noted_below z function ws.count n v.counts.above)
         (each_noted z function ws.count v.counts.above (MayNote board free_slots memo z ws home vs r id v at)
-        (λ s f is lt. may_note board free_slots memo z ws home vs r id v at s f live holding (ap (times s) unpinned) (ap (λ (g : ℕ → std.Option Denoted). g s) same ∙ is) lt)
+        (λ s f is lt. may_note board free_slots memo z ws home vs r id v at s f holding (ap (times s) unpinned) (ap (λ (g : ℕ → std.Option Denoted). g s) same ∙ is) lt)
         (r.sifts.noted id v at live) n)
 
     -- who holds the order, and knows of no swap, beside it none is half made
