@@ -1,0 +1,42 @@
+"""Prints a table of the seconds that a sweep and a swap take in a store in its holder's hands, and by single steps at a table of words.
+
+usage: holds.py PROGRAM
+
+The store has the function x0 xK + x1 x(K+1) + .. of 2K variables: 2^(K+1) nodes, which something holds (few are dead) or nothing (all are).
+What is not to be timed, as the making of the function, is taken off: it is timed alone. Each figure is the least of three runs. A hold
+loads the words of all slots as it begins, which is no part of these figures: all sweeps of a run stand within one hold.
+"""
+import subprocess
+import sys
+import time
+
+
+def run(*words):
+    """The least of three runs' seconds."""
+    seconds = []
+    for _ in range(3):
+        start = time.monotonic()
+        subprocess.run([sys.argv[1], *map(str, words)], check=True, capture_output=True)
+        seconds.append(time.monotonic() - start)
+    return min(seconds)
+
+
+def sweeps(steps, pairs):
+    """The seconds of a sweep that finds nothing dead, and of one that frees all nodes."""
+    few = (run(steps, pairs, 1, 11, 10, 0, 0) - run(steps, pairs, 1, 1, 10, 0, 0)) / 10
+    many = run(steps, pairs, 0, 1, 10, 0, 0) - run(steps, pairs, 0, 0, 10, 0, 0)
+    return few, many
+
+
+def swap(steps, level):
+    """The seconds of a swap of a level and the next, the least on average of ten."""
+    return (run(steps, 18, 1, 1, level, 10, 0) - run(steps, 18, 1, 1, level, 0, 0)) / 10
+
+
+print("nodes      | few dead: HeldStore | by steps | all dead: HeldStore | by steps")
+for pairs in (17, 18, 19):
+    (few, many), (few_steps, many_steps) = sweeps(0, pairs), sweeps(1, pairs)
+    print(f"{2 ** (pairs + 1):10,} | {few:19.3f} | {few_steps:8.3f} | {many:19.3f} | {many_steps:8.3f}")
+print("level      | a swap:   HeldStore | by steps")
+for level in (14, 15, 16):
+    print(f"{level:10} | {swap(0, level):19.4f} | {swap(1, level):8.4f}")
