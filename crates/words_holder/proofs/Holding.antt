@@ -28,8 +28,9 @@ use Rattle.step_store.specs.Knowing.{IsChain}
 use Rattle.step_store.proofs.Chaining.{once_short}
 use Rattle.words_holder.specs.declared.holder.Due.{Due}
 use Rattle.words_holder.specs.declared.holder.HolderRest.{HolderRest}
+use Rattle.words_holder.specs.declared.holder.SeatRest.{SeatRest}
 use Rattle.words_holder.specs.declared.holder.Lent.{Lent}
-use Rattle.words_holder.specs.Holders.{HoldsTable, IsHolderAt, IsWholeWalk, dues_in, hand_of, knows, pending_of, rest_of}
+use Rattle.words_holder.specs.Holders.{HoldsTable, IsHolderAt, IsWholeWalk, dues_in, hand_of, home_of, knows, pending_of, rest_of}
 use Rattle.words_rule.specs.declared.seat.Guard.{Guard}
 use Rattle.words_rule.specs.declared.seat.Pass.{Pass}
 use Rattle.words_rule.specs.declared.view.Draws.{Draws}
@@ -190,8 +191,8 @@ module _ {S : Type 0} (g : Guard S) (p q : Pass S) (list : FreeSlots) (table : L
   }
 
   -- at the same table
-  pub home_on : IsPassOf g q → rest_of (view q) ≡ rest_of V → (q.seat.table_id.views_name ≡ p.seat.table_id.views_name) × (rest_of (view q) ≡ rest_of V)
-  home_on at same = (ap (λ t. t.views_name) (at ∙ sym i.own.0), same)
+  pub home_on : IsPassOf g q → rest_of (view q) ≡ rest_of V → (q.seat.table_id.views_name ≡ p.seat.table_id.views_name) × (home_of q.seat.table_id (view q) ≡ home_of p.seat.table_id V)
+  home_on at same = let here = at ∙ sym i.own.0 in (ap (λ t. t.views_name) here, (λ j. record { words = (here j).words; slots = (here j).slots; views_name = (here j).views_name; atom = (here j).atom; block = (here j).block; offset = (here j).offset; slot_names = (here j).slot_names; seat = same j }))
 
   -- nothing changes
   pub same_on : IsPassOf g q → me q ≡ me p → IsHolderAt g q list table due

@@ -7,7 +7,9 @@ use Rattle.hold_store.specs.Held.{Knowledge, Pending}
 use Rattle.step_store.specs.Chains.{Lists}
 use Rattle.step_store.specs.Knowing.{IsChain}
 use Rattle.words_holder.specs.declared.holder.Due.{Due}
+use Rattle.atomic_table.specs.Seated.{TableId}
 use Rattle.words_holder.specs.declared.holder.HolderRest.{HolderRest}
+use Rattle.words_holder.specs.declared.holder.SeatRest.{SeatRest}
 use Rattle.words_holder.specs.declared.holder.Lent.{Lent}
 use Rattle.hold_store.specs.declared.holding.HolderRoom.{HolderRoom}
 use Rattle.node_slots.specs.Stores.{is_set}
@@ -27,7 +29,7 @@ use Rattle.words_rule.specs.Known.{link_of, walk_of}
 use Rattle.words_rule.specs.Layout.{Shape, heads, levels}
 use Rattle.words_rule.specs.Passes.{IsLiveOf, in_hand, view}
 use Rattle.words_rule.specs.Shapes.{shape_in}
-use Rattle.words_rule.specs.Views.{orders_of}
+use Rattle.words_rule.specs.Views.{blank, orders_of}
 
 abbrev pub pending_of : Due → Pending
 pending_of d = record { order = d.order; level = d.level }
@@ -88,6 +90,31 @@ pub record IsHolderAt {S : Type 0} (g : Guard S) (p : Pass S) (list : FreeSlots)
   pub has : HoldsTable (view p) list table due
   pub out : in_hand p ≡ (1, None) ∷ (2, None) ∷ []
 
--- what no step of a holder changes
-abbrev pub rest_of : View → HolderRest
+-- what no step of a holder changes of what its seat knows
+abbrev pub rest_of : View → SeatRest
 rest_of v = record { draws = v.draws; raised = v.counts.raised; owed = v.counts.owed; above = v.counts.above; generations = v.counts.generations; told_variables = v.known.told_variables; told_elements = v.known.told_elements }
+
+-- and at which table it sits
+abbrev pub home_of : TableId → View → HolderRest
+home_of i v = record {
+  words = i.words;
+  slots = i.slots;
+  views_name = i.views_name;
+  atom = i.atom;
+  block = i.block;
+  offset = i.offset;
+  slot_names = i.slot_names;
+  seat = rest_of v;
+}
+
+abbrev pub no_rest : HolderRest
+no_rest = record {
+  words = 0;
+  slots = 0;
+  views_name = 0;
+  atom = 0;
+  block = 0;
+  offset = 0;
+  slot_names = [];
+  seat = record { draws = blank; raised = []; owed = []; above = []; generations = []; told_variables = []; told_elements = [] };
+}

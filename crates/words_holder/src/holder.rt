@@ -28,8 +28,8 @@ pub struct Due {
     pub level: u32,
 }
 
-/// What no step of a holder changes: what it knows of the journal, what it counts, and the orders that the entries tell. No value of it is made.
-pub struct HolderRest {
+/// What a seat knows of the journal, what it counts, and the orders that the entries tell. No value of it is made.
+pub struct SeatRest {
     pub draws: Draws,
     pub raised: LinkedList<Held>,
     pub owed: LinkedList<Held>,
@@ -37,6 +37,27 @@ pub struct HolderRest {
     pub generations: LinkedList<SlotGeneration>,
     pub told_variables: LinkedList<u32>,
     pub told_elements: LinkedList<u32>,
+}
+
+/// What no step of a holder changes: at which table it sits (how many words and slots that has, and its marks), and what it knows besides the store. No value of it is made.
+pub struct HolderRest {
+    pub words: usize,
+    pub slots: usize,
+    pub views_name: usize,
+    pub atom: usize,
+    pub block: usize,
+    pub offset: usize,
+    pub slot_names: LinkedList<usize>,
+    pub seat: SeatRest,
+}
+
+/// No table, and nothing known.
+impl Home<HolderRest> for Brand {
+    ghost use Rattle.words_holder.specs.Holders.{no_rest};
+
+    ghost number = { 0 };
+
+    ghost rest = { no_rest };
 }
 
 /// What of its table a holder has given to who asks for the steps: the free list, and the computed table.
@@ -60,7 +81,7 @@ pub struct Holder<'a, S: HolderShelf> {
 
 impl<'a, S: HolderShelf> Holds for Holder<'a, S> {
     ghost use Rattle.words_rule.specs.Passes.{view};
-    ghost use Rattle.words_holder.specs.Holders.{IsHolderAt, knows, rest_of};
+    ghost use Rattle.words_holder.specs.Holders.{IsHolderAt, home_of, knows};
     ghost use Rattle.words_holder.specs.HolderLaws.{holder_stands};
 
     type Rest = HolderRest;
@@ -71,7 +92,7 @@ impl<'a, S: HolderShelf> Holds for Holder<'a, S> {
 
     ghost table = { λ h. h.pass.seat.table_id.views_name };
 
-    ghost rest = { λ h. rest_of (view h.pass) };
+    ghost rest = { λ h. home_of h.pass.seat.table_id (view h.pass) };
 
     fn vars(&self) -> u32 {
         self.pass.sizes().vars
