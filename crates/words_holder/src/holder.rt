@@ -1,10 +1,11 @@
 //! A seat with the order and the full hold, as a holder of its table.
-ghost use Rattle.std.specs.Prelude.{◌≡◌, [], None};
+ghost use Rattle.std.specs.Prelude.{◌≡◌, [], None, false};
 ghost use Rattle.hold_store.specs.Held.{idle};
 ghost use Rattle.words_holder.specs.Holders.{IsHolderAt, IsSpareRoom, knows, rest_of};
 ghost use Rattle.words_rule.specs.HolderPlays.{NotesCounted, NotesStay};
 ghost use Rattle.words_rule.specs.Holds.{IsFullHold};
 ghost use Rattle.words_rule.specs.Passes.{in_hand, view};
+ghost use Rattle.words_rule.specs.Views.{orders_of};
 
 use crate::holder_shelf::HolderShelf;
 use crate::told_steps;
@@ -273,6 +274,8 @@ impl<'a, S: HolderShelf> Holder<'a, S> {
         requires empty { in_hand hold.pass ≡ [] }
         ensures holds { IsHolderAt result.0.guard.now result.0.pass result.0.list result.0.memo result.0.due }
         ensures home { (result.0.pass.seat.table_id ≡ hold.pass.seat.table_id) × (rest_of (view result.0.pass) ≡ record (rest_of (view hold.pass)) { above = (view result.0.pass).counts.above }) }
+        ensures orders { orders_of (view result.0.pass).known ≡ orders_of (view hold.pass).known }
+        ensures settled { ((view result.0.pass).known.half ≡ None) × ((view result.0.pass).counts.pins ≡ []) }
         ensures noted { NotesCounted (view result.0.pass) × NotesStay (view hold.pass) (view result.0.pass) }
         ensures idle { (knows (view result.0.pass) result.0.renewed result.0.due result.0.lent).hand ≡ idle }
         ensures room { IsSpareRoom (view result.0.pass).draws.slots result.1 }
@@ -304,6 +307,7 @@ impl<'a, S: HolderShelf> Holder<'a, S> {
         requires room { IsSpareRoom (view self.pass).draws.slots room }
         ensures own { IsFullHold self.entry.guard.now result }
         ensures home { (result.pass.seat.table_id ≡ self.entry.pass.seat.table_id) × (rest_of (view result.pass) ≡ rest_of (view self.entry.pass)) }
+        ensures left { view result.pass ≡ record (view self.entry.pass) { hand = record (view self.entry.pass).hand { memo = false; free = None } } }
         ensures empty { in_hand result.pass ≡ [] }
     {
         let Holder {

@@ -29,5 +29,8 @@ return_memo-requires-clause-blank g c = subst (λ m. (0 < places m) × ((j : ℕ
 pub returns-clause-own : goal.returns-clause-own
 returns-clause-own g c = let s = c.args.self in last_hold s.guard.now s.pass c.return_memo.new.pass s.list s.memo s.due s.renewed s.lent c.requires.own c.requires.idle c.requires.settled c.return_memo.ensures.own.0 (c.return_memo.ensures.given ∙ ap (λ (v : View). record v { hand = record v.hand { memo = false } }) c.return_free.ensures.given)
 
+pub returns-clause-left : goal.returns-clause-left
+returns-clause-left g c = c.return_memo.ensures.given ∙ ap (λ (v : View). record v { hand = record v.hand { memo = false } }) c.return_free.ensures.given
+
 pub returns-clause-empty : goal.returns-clause-empty
 returns-clause-empty g c = c.return_memo.ensures.own.1 ∙ ap rest (c.return_free.ensures.own.1 ∙ ap rest c.requires.own.out)

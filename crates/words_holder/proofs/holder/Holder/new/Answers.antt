@@ -3,6 +3,7 @@ use Rattle.words_holder.proofs.Firsts.{first_idle, first_noted, first_on, first_
 use Rattle.words_rule.specs.HeldContents.{KnowsAll, held_content}
 use Rattle.words_rule.specs.HolderPlays.{AreFreeSlots}
 use Rattle.words_rule.specs.Passes.{view}
+use Rattle.words_rule.specs.Views.{orders_of}
 use Rattle.words_rule.specs.declared.view.View.{View}
 use Rattle.words_rule.proofs.HolderHands.{knows_handed}
 use Rattle.words_holder.proofs.holder.Holder.new.Goals as goal
@@ -38,6 +39,18 @@ returns-clause-home g c =
     let a = c.await_list-list.ensures in
     let list = c.await_list-list.result.0 in
     (a.own.0 ∙ sym c.requires.own.0.0, first_rest c.args.guard.now h.pass c.await_list-list.new.pass (view c.learn.new.pass) list c.learn.ensures.learnt (a.taken ∙ ap (λ (v : View). record v { hand = record v.hand { free = Some list.slots } }) m.taken))
+
+pub returns-clause-orders : goal.returns-clause-orders
+returns-clause-orders g c = ap (λ (v : View). orders_of v.known) c.await_list-list.ensures.taken ∙ ap (λ (v : View). orders_of v.known) c.await_memo-memo.ensures.taken ∙ ap (λ k. orders_of k) c.learn.ensures.learnt.known
+
+pub returns-clause-settled : goal.returns-clause-settled
+returns-clause-settled g c =
+    let list = c.await_list-list.ensures.taken in
+    let memo = c.await_memo-memo.ensures.taken in
+    let l = c.learn.ensures.learnt in (
+      ap (λ (v : View). v.known.half) list ∙ ap (λ (v : View). v.known.half) memo ∙ ap (λ k. k.half) l.known ∙ c.requires.own.4.half,
+      ap (λ (v : View). v.counts.pins) list ∙ ap (λ (v : View). v.counts.pins) memo ∙ ap (λ k. k.pins) l.counts ∙ c.requires.fresh.0,
+    )
 
 pub returns-clause-noted : goal.returns-clause-noted
 returns-clause-noted g c =
