@@ -1,23 +1,25 @@
-"""Prints a table of the seconds that a sweep and a swap take in a store in its holder's hands, and by single steps at a table of words.
+"""Prints tables of the seconds of processor time that a sweep, a swap and a sift of two levels take in a store in its holder's hands, and by
+single steps at a table of words.
 
 usage: holds.py PROGRAM
 
 The store has the function x0 xK + x1 x(K+1) + .. of 2K variables: 2^(K+1) nodes, which something holds (few are dead) or nothing (all are).
-What is not to be timed, as the making of the function, is taken off: it is timed alone. Each figure is the least of three runs. A hold
+What is not to be timed, as the making of the function, is taken off: it is timed alone. Each figure is of the least of four runs. A hold
 loads the words of all slots as it begins, which is no part of these figures: all sweeps of a run stand within one hold.
 """
+import os
 import subprocess
 import sys
-import time
 
 
 def run(*words):
-    """The least of three runs' seconds."""
+    """The least of four runs' seconds of processor time."""
     seconds = []
-    for _ in range(3):
-        start = time.monotonic()
+    for _ in range(4):
+        before = os.times()
         subprocess.run([sys.argv[1], *map(str, words)], check=True, capture_output=True)
-        seconds.append(time.monotonic() - start)
+        after = os.times()
+        seconds.append(after.children_user - before.children_user + after.children_system - before.children_system)
     return min(seconds)
 
 
@@ -29,8 +31,13 @@ def sweeps(steps, pairs):
 
 
 def swap(steps, level):
-    """The seconds of a swap of a level and the next, the least on average of ten."""
+    """The seconds of a swap of a level and the next, on average of ten."""
     return (run(steps, 18, 1, 1, level, 10, 0) - run(steps, 18, 1, 1, level, 0, 0)) / 10
+
+
+def sift(steps, level):
+    """The seconds of a sift of a level and the next, which makes four swaps, on average of three."""
+    return (run(steps, 18, 1, 1, level, 0, 3) - run(steps, 18, 1, 1, level, 0, 0)) / 3
 
 
 print("nodes      | few dead: HeldStore | by steps | all dead: HeldStore | by steps")
@@ -40,3 +47,6 @@ for pairs in (17, 18, 19):
 print("level      | a swap:   HeldStore | by steps")
 for level in (14, 15, 16):
     print(f"{level:10} | {swap(0, level):19.4f} | {swap(1, level):8.4f}")
+print("level      | a sift:   HeldStore | by steps")
+for level in (14, 15, 16):
+    print(f"{level:10} | {sift(0, level):19.3f} | {sift(1, level):8.3f}")
