@@ -1,4 +1,3 @@
 mod Lists
 mod Sweeping
 mod Counting
-pub mod HeldRests

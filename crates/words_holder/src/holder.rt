@@ -116,7 +116,7 @@ impl<'a, S: HolderShelf> Holds for Holder<'a, S> {
     }
 
     fn peek_free(&self) -> bool {
-        self.guard.peek_free(&self.pass)
+        !self.lent.free
     }
 
     fn peek_head(&self, head: u32) -> u32 {

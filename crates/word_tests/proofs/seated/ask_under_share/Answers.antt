@@ -7,7 +7,7 @@ pub stepper-seat-requires-clause-few : goal.stepper-seat-requires-clause-few
 stepper-seat-requires-clause-few g c = let same = ap (λ w. w.fulls) c.op_wait-share.ensures.1.0.0.work in let none = c.requires.fulls in omega (arith, same, none)
 
 pub stepper-seat-requires-clause-idle : goal.stepper-seat-requires-clause-idle
-stepper-seat-requires-clause-idle g c = let h = c.op_wait-share.ensures.1.0.0.hand in (ap (λ x. x.levels) h ∙ c.requires.calm.levels, ap (λ x. x.free) h ∙ c.requires.calm.list, ap (λ x. x.link) h ∙ c.requires.calm.link, ap (λ x. x.memo) h ∙ c.requires.calm.memo)
+stepper-seat-requires-clause-idle g c = let h = c.op_wait-share.ensures.1.0.0.hand in (ap (λ x. x.levels) h ∙ c.requires.levels, ap (λ x. x.free) h ∙ c.requires.list, ap (λ x. x.link) h ∙ c.requires.link, ap (λ x. x.memo) h ∙ c.requires.memo)
 
 pub op_out-requires : goal.op_out-requires
 op_out-requires g c =
