@@ -36,6 +36,7 @@ use Rattle.words_rule.specs.declared.seat.Pass.{Pass}
 use Rattle.words_rule.specs.declared.view.Draws.{Draws}
 use Rattle.words_rule.specs.declared.view.Hand.{Hand}
 use Rattle.words_rule.specs.declared.view.Link.{Link}
+use Rattle.words_rule.specs.declared.view.Stored.{Stored}
 use Rattle.words_rule.specs.declared.view.View.{View}
 use Rattle.words_rule.specs.declared.view.Walk.{Walk}
 use Rattle.free_list.specs.FreeSlots.{FreeSlots}
@@ -133,11 +134,11 @@ pub free_room : (w : Content) (slot : ℕ) (was : Word) (list : List ℕ) → w.
 free_room w slot was list used inside f = let short = once_short (slot ∷ list) w.limit ((λ again. no_word was (sym used ∙ (f.free slot again).1)), f.once) (λ s there. ⊎_elim (λ e. subst (λ (x : ℕ). x < w.limit) e inside) (λ later. (f.free s later).0) there) in omega (arith, short)
 
 -- with these order words due
-abbrev pub with_pending : View → List ℕ → View
-with_pending v l = record v { known = record v.known { pending = l } }
+abbrev pub with_pending : View → List ℕ → Stored → View
+with_pending v l x = record v { known = record v.known { pending = l }; stored = x }
 
-pub knows_pending : (v : View) (l : List ℕ) → KnowsAll v → KnowsAll (with_pending v l)
-knows_pending v l k = record { sound = k.sound; long = k.long; noted = k.noted; beyond = k.beyond; aged = k.aged; zeros = k.zeros; own = k.own; once = k.once }
+pub knows_pending : (v : View) (l : List ℕ) (x : Stored) → KnowsAll v → KnowsAll (with_pending v l x)
+knows_pending v l x k = record { sound = k.sound; long = k.long; noted = k.noted; beyond = k.beyond; aged = k.aged; zeros = k.zeros; own = k.own; once = k.once }
 
 pub exchanged_long : (orders : Orders) (order : Order) (level : ℕ) → length (in_order (exchanged orders order level) order) ≡ length (in_order orders order)
 exchanged_long orders Variables level = length-swap orders.variables level (level + 1)
@@ -259,8 +260,8 @@ module _ {S : Type 0} (g : Guard S) (p q : Pass S) (list : FreeSlots) (table : L
   pub renewed_on : IsPassOf g q → in_hand q ≡ in_hand p → (slot n : ℕ) → HasRenewed slot n V (view q) → IsHolderAt g q list table due
   renewed_on at out slot n f = kept_on at out (ap (λ (v : View). v.draws) f.is) (ap (λ (v : View). v.shares) f.is) (ap (λ (v : View). v.hand) f.is) (ap (λ (v : View). v.known.pending) f.is) (ap (λ (v : View). orders_of v.known) f.is) (ap (λ (v : View). λ s. word_in (noted_bits v.known.words s)) f.is) f.knows
 
-  pub pinned_on : IsPassOf g q → in_hand q ≡ in_hand p → (slot : ℕ) (pinned : Bool) (pins : List ℕ) → HasPinned slot pinned pins V (view q) → IsHolderAt g q list table due
-  pinned_on at out slot pinned pins f = kept_on at out (ap (λ (v : View). v.draws) f.is) (ap (λ (v : View). v.shares) f.is) (ap (λ (v : View). v.hand) f.is) (ap (λ (v : View). v.known.pending) f.is) (ap (λ (v : View). orders_of v.known) f.is) (ap (λ (v : View). λ s. word_in (noted_bits v.known.words s)) f.is) f.knows
+  pub pinned_on : IsPassOf g q → in_hand q ≡ in_hand p → (slot : ℕ) (pinned : Bool) (pins : List ℕ) (word : ℕ) → HasPinned slot pinned pins word V (view q) → IsHolderAt g q list table due
+  pinned_on at out slot pinned pins word f = kept_on at out (ap (λ (v : View). v.draws) f.is) (ap (λ (v : View). v.shares) f.is) (ap (λ (v : View). v.hand) f.is) (ap (λ (v : View). v.known.pending) f.is) (ap (λ (v : View). orders_of v.known) f.is) (ap (λ (v : View). λ s. word_in (noted_bits v.known.words s)) f.is) f.knows
 
   pub rewritten_on : IsPassOf g q → in_hand q ≡ in_hand p → (node : Node) (slot bits : ℕ) → (was : Word) → (held_content V).word slot ≡ Some was → HasRewritten node slot bits V (view q) → IsHolderAt g q list table due
   rewritten_on at out node slot bits was used r = let h = i.has in rebuilt at (view q) refl r.still.draws list due
@@ -306,10 +307,10 @@ module _ {S : Type 0} (g : Guard S) (p q : Pass S) (list : FreeSlots) (table : L
       no_slot s e = cc
 
   -- the orders are exchanged, and this word is due
-  pub exchanged_on : IsPassOf g q → in_hand q ≡ in_hand p → (order : Order) (level : ℕ) (u : View) → HasExchanged order level V u → level + 1 < length (in_order (orders_of V.known) order) → (pending : List ℕ) → pending ≡ position (shape_in V.draws) order (level + 1) ∷ []
-      → view q ≡ with_pending u pending → IsHolderAt g q list table (Some (record { order = order; level = level + 1 }))
-  exchanged_on at out order level u r lt pending left is = let h = i.has in rebuilt at _ is r.draws list (Some (record { order = order; level = level + 1 }))
-      (held_on V (with_pending u pending) list table due h r.draws r.shares (knows_pending u pending r.knows) V.hand r.hand list (Some (record { order = order; level = level + 1 })) h.taken h.memo_is h.list_is h.roomy
+  pub exchanged_on : IsPassOf g q → in_hand q ≡ in_hand p → (order : Order) (level : ℕ) (u : View) → HasExchanged order level V u → level + 1 < length (in_order (orders_of V.known) order) → (pending : List ℕ) (x : Stored) → pending ≡ position (shape_in V.draws) order (level + 1) ∷ []
+      → view q ≡ with_pending u pending x → IsHolderAt g q list table (Some (record { order = order; level = level + 1 }))
+  exchanged_on at out order level u r lt pending x left is = let h = i.has in rebuilt at _ is r.draws list (Some (record { order = order; level = level + 1 }))
+      (held_on V (with_pending u pending x) list table due h r.draws r.shares (knows_pending u pending x r.knows) V.hand r.hand list (Some (record { order = order; level = level + 1 })) h.taken h.memo_is h.list_is h.roomy
       (free_same (held_content V) (held_content u) list.slots (ap (λ (w : Content). w.limit) r.content) (ap (λ (w : Content). w.word) r.content) h.free_is) h.turn h.loose h.walk left
       (λ d its. subst (λ (e : Due). e.level < length (in_order (orders_of u.known) e.order)) (some_due _ d its)
       (subst (λ (n : ℕ). level + 1 < n) (sym (ap (λ (w : Content). length (in_order w.orders order)) r.content ∙ exchanged_long (orders_of V.known) order level)) lt))) (out ∙ i.out)
@@ -317,9 +318,9 @@ module _ {S : Type 0} (g : Guard S) (p q : Pass S) (list : FreeSlots) (table : L
       some_due : (a b : Due) → Some a ≡ Some b → a ≡ b
       some_due a b e = cc
 
-  pub due_stored_on : IsPassOf g q → in_hand q ≡ in_hand p → (pending : List ℕ) → pending ≡ [] → view q ≡ with_pending V pending → IsHolderAt g q list table None
-  due_stored_on at out pending none is = let h = i.has in rebuilt at _ is refl list None
-      (held_on V (with_pending V pending) list table due h refl refl (knows_pending V pending h.knows_all) V.hand refl list None h.taken h.memo_is h.list_is h.roomy h.free_is h.turn h.loose h.walk none (λ d its. absurd (no_due d its))) (out ∙ i.out)
+  pub due_stored_on : IsPassOf g q → in_hand q ≡ in_hand p → (pending : List ℕ) (x : Stored) → pending ≡ [] → view q ≡ with_pending V pending x → IsHolderAt g q list table None
+  due_stored_on at out pending x none is = let h = i.has in rebuilt at _ is refl list None
+      (held_on V (with_pending V pending x) list table due h refl refl (knows_pending V pending x h.knows_all) V.hand refl list None h.taken h.memo_is h.list_is h.roomy h.free_is h.turn h.loose h.walk none (λ d its. absurd (no_due d its))) (out ∙ i.out)
     where
       no_due : (d : Due) → None ≡ Some d → ⊥
       no_due d e = cc

@@ -29,6 +29,7 @@ use Rattle.words_holder.specs.declared.holder.Lent.{Lent}
 use Rattle.words_holder.specs.Holders.{hand_of, knows}
 use Rattle.words_holder.proofs.Holding.{exchanged_long, level_same, with_pending}
 use Rattle.words_rule.specs.declared.view.SeenWord.{SeenWord}
+use Rattle.words_rule.specs.declared.view.Stored.{Stored}
 use Rattle.words_rule.specs.declared.view.View.{View}
 use Rattle.words_rule.specs.Exchanges.{dues_of, item, position}
 use Rattle.words_rule.specs.Hands.{without_level}
@@ -99,12 +100,12 @@ module _ (v u : View) (renewed : std.Option ℕ) (due : std.Option Due) (lent : 
       → knows u (Some slot) due lent ≡ record K { content = record K.content { generation = put_at K.content.generation slot (generation_of n) }; hand = record K.hand { renewed = Some slot } }
   renewed_told slot n f = λ i. record { content = f.content i; bits = λ s. held_bits (f.is i) s; heads = heads (shape_in (f.is i).draws); hand = hand_of (f.is i).hand (Some slot) due lent }
 
-  pub pinned_told : (slot : ℕ) (pinned : Bool) (pins : List ℕ) → HasPinned slot pinned pins v u → knows u renewed due lent ≡ record K { content = with_pin K.content slot pinned }
-  pinned_told slot pinned pins f = λ i. record { content = f.content i; bits = λ s. held_bits (f.is i) s; heads = heads (shape_in (f.is i).draws); hand = hand_of (f.is i).hand renewed due lent }
+  pub pinned_told : (slot : ℕ) (pinned : Bool) (pins : List ℕ) (word : ℕ) → HasPinned slot pinned pins word v u → knows u renewed due lent ≡ record K { content = with_pin K.content slot pinned }
+  pinned_told slot pinned pins word f = λ i. record { content = f.content i; bits = λ s. held_bits (f.is i) s; heads = heads (shape_in (f.is i).draws); hand = hand_of (f.is i).hand renewed due lent }
 
-  pub exchanged_told : (order : Order) (level : ℕ) (l : List ℕ) → HasExchanged order level v u
-      → knows (with_pending u l) renewed (Some (record { order = order; level = level + 1 })) lent ≡ record K { content = record K.content { orders = exchanged K.content.orders order level; half = None }; hand = record K.hand { pending = Some (record { order = order; level = level + 1 }) } }
-  exchanged_told order level l r = λ i. record { content = r.content i; bits = r.bits_are i; heads = heads (shape_in (r.draws i)); hand = hand_of (r.hand i) renewed (Some (record { order = order; level = level + 1 })) lent }
+  pub exchanged_told : (order : Order) (level : ℕ) (l : List ℕ) (x : Stored) → HasExchanged order level v u
+      → knows (with_pending u l x) renewed (Some (record { order = order; level = level + 1 })) lent ≡ record K { content = record K.content { orders = exchanged K.content.orders order level; half = None }; hand = record K.hand { pending = Some (record { order = order; level = level + 1 }) } }
+  exchanged_told order level l x r = λ i. record { content = r.content i; bits = r.bits_are i; heads = heads (shape_in (r.draws i)); hand = hand_of (r.hand i) renewed (Some (record { order = order; level = level + 1 })) lent }
 
 -- an order as it is known has each number once
 pub is_order : (w : Content) → IsSound w → (order : Order) → IsOrder (in_order w.orders order)

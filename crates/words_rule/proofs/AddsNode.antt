@@ -42,6 +42,7 @@ use Rattle.words_rule.specs.HolderPlays.{HasAdded, IsAddable, node_added, node_d
 use Rattle.words_rule.specs.Kept.{IsHeldBy, whole_of}
 use Rattle.words_rule.specs.Known.{denoted_in}
 use Rattle.words_rule.specs.Layout.{Shape, Words, content_of, node_at, words_of}
+use Rattle.words_rule.specs.OneSession.{storing_node}
 use Rattle.words_rule.specs.Rule.{Parts, Rule, hands_in, tallies_in}
 use Rattle.words_rule.specs.Seen.{StandsSo}
 use Rattle.words_rule.proofs.Decoding.{Beyond, decodes}
@@ -58,6 +59,7 @@ use Rattle.words_rule.proofs.Lists.{not_true, set_at}
 use Rattle.words_rule.proofs.Rewrites.{holders_now, nobody_keeps, nobody_takes, order_by_full}
 use Rattle.words_rule.proofs.Seeing.{seen_alone}
 use Rattle.words_rule.proofs.Stepping.{shape_is}
+use Rattle.words_rule.proofs.OneSessions.{one_told, parts_told, told_node}
 use Rattle.words_rule.proofs.Tabling.{after_word, set_set}
 use Rattle.free_list.specs.FreeSlots.{FreeSlots}
 
@@ -93,6 +95,7 @@ abbrev added : View → ℕ → ℕ → List ℕ → Kind → Node → View
 added v q bits list k node = record v {
   hand = adding q list v.hand;
   known = record v.known { words = with_word q bits v.known.words; seen = with_seen q (whole_of (shape_in v.draws) (node_denotes k (held_content v) node)) v.known.seen };
+  stored = storing_node q bits v.stored;
 }
 
 module _ (v : View) (know : KnowsAll v) (q bits : ℕ) (list : List ℕ) (k : Kind) (node : Node) (none_taken : v.hand.taken ≡ None) (small : bits < 18446744073709551616) (inside : q < v.draws.slots) (reads : unpack_of bits ≡ Some (Inner node))
@@ -122,6 +125,7 @@ module _ (v : View) (know : KnowsAll v) (q bits : ℕ) (list : List ℕ) (k : Ki
   has_added = record {
     still = record { draws = refl; shares = refl; counts = refl; work = refl; told = refl; pending = refl };
     hand = ap (λ (t : std.Option Job). record v.hand { free = Some list; taken = t; loose = Some q; link = None }) (sym none_taken);
+    stored = refl;
     content = content_after;
     bits_are = bits_put q bits v.known.words;
     knows = knows_after;
@@ -233,7 +237,7 @@ module _ {S : Type 0} (board : S → List (std.Option Cell)) (free_slots : S →
     -- the parts after it, the slot was free, and the function is had back from the note
     parts_added : v.draws.live ≡ true → v.shares.full ≡ Holding → KnowsAll v → (q bits : ℕ) (list : List ℕ) (k : Kind) (node : Node) → bits < 18446744073709551616 → v.hand.taken ≡ None → v.hand.loose ≡ None → v.hand.free ≡ Some (q ∷ list) → unpack_of bits ≡ Some (Inner node)
         → IsAddable k (held_content v) node → HasLevel v.hand (level_of (shape_in v.draws) (Inner node))
-        → PartsOf z (record ws { node = put_at ws.node q bits }) home (set vs id (added v q bits list k node)) × ((held_content v).word q ≡ None)
+        → PartsOf z (record ws { node = put_at ws.node q bits }) home (set vs id (moved v (adding q list v.hand) (added v q bits list k node).known)) × ((held_content v).word q ≡ None)
         × (denoted_in v.draws.vars (whole_of (shape_in v.draws) (node_denotes k (held_content v) node)) ≡ node_denotes k (held_content v) node)
     parts_added live full know q bits list k node small none_taken none_loose free reads can level =
         let holding = order_by_full board free_slots memo z ws home vs r id v at full in
@@ -274,12 +278,15 @@ module _ {S : Type 0} (board : S → List (std.Option Cell)) (free_slots : S →
       let node : Node = may.1 in
       let list : List ℕ = free.0 in
       let u : View = added v q bits list k node in
+      let ws1 : Words = record ws { node = put_at ws.node q bits } in
       let a = parts_added z ws home s.views p id v at live full know q bits list k node small none_taken none_loose free.1 may.2 may.3 may.4 in (
         u,
         keeps,
         tt,
         subst (λ (i : ℕ). TheRule (record { words = set s.words i bits; homes = s.homes; views = set s.views id u })) (ap (λ (y : Shape). node_at y q) shape)
-            (after_word board free_slots memo s r (node_at z q) bits (set s.views id u) s.homes (record ws { node = put_at ws.node q bits }) refl (set_node z s.words bits q below r.wide) a.0),
+            (after_word board free_slots memo s r (node_at z q) bits (set s.views id u) s.homes ws1 refl (set_node z s.words bits q below r.wide)
+            (parts_told board free_slots memo z ws1 home s.views id v (moved v u.hand u.known) at a.0 u.stored)
+            (one_told board free_slots memo z ws home s.views p r.one id v u at live refl ws.order ws1.node ws.count (λ are. told_node z ws.order ws.node ws.count v.stored are q bits))),
         (
           refl,
           refl,

@@ -17,6 +17,7 @@ use Rattle.words_rule.specs.declared.view.View.{View}
 use Rattle.words_rule.specs.Shapes.{shape_in}
 use Rattle.words_rule.specs.Layout.{Shape, levels, heads, places, words_of, turn_at, order_at, node_at, next_at, head_at}
 use Rattle.words_rule.specs.Hands.{place_of, HasLevel, Owns, linking, taking, with_level, without_level}
+use Rattle.words_rule.specs.OneSession.{storing_node}
 use Rattle.words_rule.specs.Rule.{Rule}
 use Rattle.words_rule.specs.Known.{Own, known_of, own_none, taken_of, with_made}
 use Rattle.words_rule.specs.Loads.{LoadedNode, LoadedWord, StoredNode, TakenReads, sees_of}
@@ -36,6 +37,7 @@ use Rattle.words_rule.proofs.StoreClauses.{step_take_slot}
 use Rattle.words_rule.proofs.NodeLoads.{loads_met}
 use Rattle.words_rule.proofs.NodeStores.{step_store_taken}
 use Rattle.words_rule.proofs.WalkSteps.{step_load_word}
+use Rattle.words_rule.proofs.OneLoads.{finds_told}
 use Rattle.free_list.specs.FreeSlots.{FreeSlots}
 
 module _ {S : Type 0} (board : S → List (std.Option Cell)) (free_slots : S → FreeSlots) (memo : S → List ℕ) where
@@ -114,7 +116,7 @@ module _ {S : Type 0} (board : S → List (std.Option Cell)) (free_slots : S →
       let x = loads_met board free_slots memo slots id me o q live share inside few s r long at small in
       let n : ℕ = get_or s.words (node_at (shape_in me.0.draws) q) 0 in
       let t = x.4 in
-      (x.0, x.1, x.2, x.3, (t.0, t.1, t.2, t.3, (λ p same. subst (λ (j : ℕ). LoadedNode (known_of me.0 o) (known_of x.0 o) j n) (let e : q ≡ p = omega (arith, same) in e) t.4))))
+      (x.0, x.1, x.2, x.3, (t.0, t.1, t.2, t.3, t.4, (λ p same. subst (λ (j : ℕ). LoadedNode (known_of me.0 o) (known_of x.0 o) j n) (let e : q ≡ p = omega (arith, same) in e) t.5), finds_told board free_slots memo s r id me.0 at live (node_at (shape_in me.0.draws) q))))
 
   pub call_take_free : (slots id : ℕ) (me : Sat) (new : ℕ) → me.0.draws.live ≡ true → new ≢ 0 → Allows TheRule slots id me 3 (λ n. either (n == 0) new n) (free_taken free_slots (step slots 3 0 new none) me)
   call_take_free slots id me new live nonzero s r long at small =
@@ -177,7 +179,7 @@ module _ {S : Type 0} (board : S → List (std.Option Cell)) (free_slots : S →
         (
           t.0,
           t.1,
-          (λ q same. subst (λ (j : ℕ). (y.0.work ≡ record me.0.work { made = j ∷ me.0.work.made }) × StoredNode (known_of me.0 o) (known_of y.0 (with_made o j)) j bits) (let e : slot ≡ q = omega (arith, same) in e) (t.2, t.3)),
+          (λ q same. subst (λ (j : ℕ). (y.0.work ≡ record me.0.work { made = j ∷ me.0.work.made }) × (y.0.stored ≡ storing_node j bits me.0.stored) × StoredNode (known_of me.0 o) (known_of y.0 (with_made o j)) j bits) (let e : slot ≡ q = omega (arith, same) in e) (t.2, t.3, t.4)),
         ),
       ))
 
@@ -188,7 +190,7 @@ module _ {S : Type 0} (board : S → List (std.Option Cell)) (free_slots : S →
       let y = step_load_word board free_slots memo slots id me q live inside met share s r long at small in
       let n : ℕ = get_or s.words (node_at (shape_in me.0.draws) q) 0 in
       let t = y.4 in
-      (y.0, y.1, y.2, y.3, (t.0, t.1, (λ p same. subst (λ (j : ℕ). LoadedWord me.0 y.0 j n) (let e : q ≡ p = omega (arith, same) in e) t.2))))
+      (y.0, y.1, y.2, y.3, (t.0, t.1, (λ p same. subst (λ (j : ℕ). LoadedWord me.0 y.0 j n) (let e : q ≡ p = omega (arith, same) in e) t.2), finds_told board free_slots memo s r id me.0 at live (node_at (shape_in me.0.draws) q))))
 
   -- a level word is within the table
   pub place_below : (v : View) (k : Kind) (u : ℕ) → IsVariable k (known_of v own_none).view u → place_of (shape_in v.draws) u < places (shape_in v.draws)
@@ -215,5 +217,6 @@ module _ {S : Type 0} (board : S → List (std.Option Cell)) (free_slots : S →
               let is = ap (λ (i : ℕ). get_or s.words i 0) (same ∙ ap (λ (y : Shape). order_at y (places y + place_of y u)) (sym shape))
               ∙ sym (here_order z s.words 0 (places z + place_of z u) (let lt = l.0 in omega (arith, lt))) ∙ l.1 in
               let lt = level_few board free_slots memo z ws home s.views p id v at live share own_none k u un in (is, omega (arith, is, lt))),
+          finds_told board free_slots memo s r id me.0 at live word,
         ),
       )

@@ -24,6 +24,7 @@ use Rattle.words_rule.specs.Known.{noted_function}
 use Rattle.words_rule.specs.Phase.{footing_of}
 use Rattle.words_rule.specs.Tallies.{Tally, cells_count, held_count, refs, row_count, tally_of, times}
 use Rattle.words_rule.specs.CountLoads.{HasCounted, count_loaded}
+use Rattle.words_rule.specs.OneSession.{storer_of}
 use Rattle.words_rule.specs.Rule.{Parts, Rule, footings_in, tallies_in}
 use Rattle.words_rule.proofs.Lists.{each_at, map_at}
 use Rattle.words_rule.proofs.Layouts.{here_count}
@@ -34,6 +35,8 @@ use Rattle.words_rule.proofs.Pinning.{parts_zero}
 use Rattle.words_rule.proofs.Stepping.{shape_is}
 use Rattle.words_rule.proofs.Tabling.{stays}
 use Rattle.words_rule.proofs.Tallying.{total-has}
+use Rattle.words_rule.proofs.Draws.{one_still}
+use Rattle.words_rule.proofs.OneLoads.{finds_told}
 use Rattle.free_list.specs.FreeSlots.{FreeSlots}
 
 -- a slot of which an edge is held denotes something
@@ -107,23 +110,24 @@ module _ {S : Type 0} (board : S → List (std.Option Cell)) (free_slots : S →
       let counts : count_of (ws.count k) ≡ count_of n = ap count_of found in
       let one : (j : ℕ) → i ≡ count_at (shape_in v.draws) j → k ≡ j = λ j same. omega (arith, same) in
       let still : 0 < times k v.counts.zeros → count_of n ≡ refs k (tally_of v) = λ zeros. sym counts ∙ p.counts.still id (tally_of v) (at_map tally_of s.views id v at) k zeros in
-      let whole : (u : View) → Parts board free_slots memo z ws home (set s.views id u) → Rule board free_slots memo (record { words = set s.words i n; homes = s.homes; views = set s.views id u }) =
-      λ u parts. subst (λ (l : List ℕ). Rule board free_slots memo (record { words = l; homes = s.homes; views = set s.views id u })) (sym (set-get_or s.words i 0)) (record { shape = z; wide = r.wide; long = r.long; parts = parts }) in
+      let whole : (u : View) → storer_of u ≡ storer_of v → Parts board free_slots memo z ws home (set s.views id u) → Rule board free_slots memo (record { words = set s.words i n; homes = s.homes; views = set s.views id u }) =
+      λ u same parts. subst (λ (l : List ℕ). Rule board free_slots memo (record { words = l; homes = s.homes; views = set s.views id u })) (sym (set-get_or s.words i 0)) (record { shape = z; wide = r.wide; long = r.long; parts = parts; one = one_still z ws.order ws.node ws.count s.views id v u at same r.one }) in
       dite (ℕ_discrete (count_of n) 0)
       (λ zero_it. let u : View = record v { counts = record v.counts { zeros = k ∷ v.counts.zeros } } in (
         u,
         keeps,
         tt,
-        whole u (parts_zero board free_slots memo z ws home s.views p id v at k holding (counts ∙ zero_it)),
+        whole u refl (parts_zero board free_slots memo z ws home s.views p id v at k holding (counts ∙ zero_it)),
         (
           refl,
           refl,
-          λ j same. subst (λ (j : ℕ). HasCounted j (count_of n) v u) (one j same) (record {
+          (λ j same. subst (λ (j : ℕ). HasCounted j (count_of n) v u) (one j same) (record {
             none = λ _. (none_own z ws home s.views p id v at holding k (counts ∙ zero_it), refl);
             some = λ not_zero _. absurd (not_zero zero_it);
             pinned = λ not_zero _. absurd (not_zero zero_it);
             still = still;
-          }),
+          })),
+          finds_told board free_slots memo s r id me.0 at live i,
         ),
       ))
       (λ some_there. dite (ℕ_discrete (times k v.counts.pins) 0)
@@ -134,16 +138,17 @@ module _ {S : Type 0} (board : S → List (std.Option Cell)) (free_slots : S →
         u,
         keeps,
         tt,
-        whole u (parts_above board free_slots memo z ws home s.views p id v at k o.0 live holding unpinned o.1 lt),
+        whole u refl (parts_above board free_slots memo z ws home s.views p id v at k o.0 live holding unpinned o.1 lt),
         (
           refl,
           refl,
-          λ j same. subst (λ (j : ℕ). HasCounted j (count_of n) v u) (one j same) (record {
+          (λ j same. subst (λ (j : ℕ). HasCounted j (count_of n) v u) (one j same) (record {
             none = λ zero_it. absurd (some_there zero_it);
             some = λ _ _. record { function = whole_of z o.0; is = refl; same = noted_same z ws home s.views p id v at holding k o.0 o.1 };
             pinned = λ _ pinned. absurd (pinned unpinned);
             still = still;
-          }),
+          })),
+          finds_told board free_slots memo s r id me.0 at live i,
         ),
       ))
       (λ pinned. (
@@ -154,11 +159,12 @@ module _ {S : Type 0} (board : S → List (std.Option Cell)) (free_slots : S →
         (
           refl,
           refl,
-          λ j same. subst (λ (j : ℕ). HasCounted j (count_of n) v v) (one j same) (record {
+          (λ j same. subst (λ (j : ℕ). HasCounted j (count_of n) v v) (one j same) (record {
             none = λ zero_it. absurd (some_there zero_it);
             some = λ _ unpinned. absurd (pinned unpinned);
             pinned = λ _ _. refl;
             still = still;
-          }),
+          })),
+          finds_told board free_slots memo s r id me.0 at live i,
         ),
       ))))

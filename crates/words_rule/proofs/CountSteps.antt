@@ -17,12 +17,14 @@ use Rattle.words_rule.specs.declared.view.Held.{Held}
 use Rattle.words_rule.specs.declared.view.Row.{Row}
 use Rattle.words_rule.specs.declared.view.Share.TheVariants as shares
 use Rattle.words_rule.specs.declared.view.Hold.TheVariants.{Holding}
+use Rattle.words_rule.specs.declared.view.Stored.{Stored}
 use Rattle.words_rule.specs.declared.view.View.{View}
 use Rattle.words_rule.specs.Shapes.{shape_in}
 use Rattle.words_rule.specs.Layout.{Shape, Words, words_of, count_at}
 use Rattle.words_rule.specs.Kept.{IsHeldBy, whole_of}
 use Rattle.words_rule.specs.Tallies.{held_count, lifted, one_if, refs, row_count, size, tally_of, times}
 use Rattle.words_rule.specs.CountPlays.{HasRow, MayRaise, others_of, counted_up, counted_down, pinned, unpinned}
+use Rattle.words_rule.specs.OneSession.{count_by, counting_down, counting_up, storing_count}
 use Rattle.words_rule.specs.Rule.{Parts, Rule, tallies_in}
 use Rattle.words_rule.specs.Known.{noted_content, own_none}
 use Rattle.words_rule.proofs.Lists.{each_at}
@@ -31,6 +33,7 @@ use Rattle.words_rule.proofs.Tallying.{counts_small, total-has}
 use Rattle.words_rule.proofs.Stepping.{shape_is, parts_raise, parts_raise_row, parts_lower}
 use Rattle.words_rule.proofs.Pinning.{parts_pin, parts_unpin}
 use Rattle.words_rule.proofs.Meeting.{content_true}
+use Rattle.words_rule.proofs.OneSessions.{one_told, parts_told, told_count}
 use Rattle.words_rule.proofs.Tabling.{after_word}
 use Rattle.free_list.specs.FreeSlots.{FreeSlots}
 
@@ -45,6 +48,13 @@ down_count n lt some_one = omega (arith, lt, some_one)
 
 pub down_generation : (n : ℕ) → n < 18446744073709551616 → 0 < count_of n → generation_of ((n + (2 ^ 64 - 1)) % 2 ^ 64) ≡ generation_of n
 down_generation n lt some_one = omega (arith, lt, some_one)
+
+-- the word behind, by the one before it
+pub up_word : (n c : ℕ) → n < 18446744073709551616 → count_of n ≤ 2 ^ 31 + 320 → c ≡ n → (n + 1) % 2 ^ 64 ≡ c + 1
+up_word n c lt few is = omega (arith, lt, few, is)
+
+pub down_word : (n c : ℕ) → n < 18446744073709551616 → 0 < count_of n → c ≡ n → (n + (2 ^ 64 - 1)) % 2 ^ 64 ≡ c - 1
+down_word n c lt some_one is = omega (arith, lt, some_one, is)
 
 counted_row : (k : ℕ) (rows : List Row) (j : ℕ) (row : Row) → get_elem? rows j ≡ some row → row.held.edge.index ≡ k → 0 < row_count k rows
 counted_row k [] j row at is = absurd (some-ne-none row (sym at))
@@ -87,10 +97,18 @@ module _ {S : Type 0} (board : S → List (std.Option Cell)) (free_slots : S →
     pub few : count_of n ≤ 2 ^ 31 + 320
     few = subst (λ (x : ℕ). count_of x ≤ 2 ^ 31 + 320) is_count (counts_small ws.count r.parts.cells (tallies_in s.views) r.parts.counts k)
 
-    -- the count word becomes new, and the view this
-    pub ends : (new : ℕ) (w : View) → PartsOf r.shape (record ws { count = put_at ws.count k new }) home (set s.views id w) → TheRule (record { words = set s.words word new; homes = s.homes; views = set s.views id w })
-    ends new w parts = after_word board free_slots memo s r word new (set s.views id w) s.homes (record ws { count = put_at ws.count k new }) refl
-        (ap (λ i. words_of r.shape (set s.words i new)) (sym word_is) ∙ set_count r.shape s.words new k below r.wide) parts
+    -- the count word becomes new, which the view notes
+    pub ends : (new noted : ℕ) → (count_by me.0.stored k ≡ n → new ≡ noted) → (w : View) → w.draws ≡ me.0.draws → PartsOf r.shape (record ws { count = put_at ws.count k new }) home (set s.views id w)
+        → TheRule (record { words = set s.words word new; homes = s.homes; views = set s.views id (record w { stored = storing_count k noted me.0.stored }) })
+    ends new noted is w same parts =
+        let ws1 : Words = record ws { count = put_at ws.count k new } in
+        let l : Stored = storing_count k noted me.0.stored in
+        let u : View = record w { stored = l } in
+        after_word board free_slots memo s r word new (set s.views id u) s.homes ws1 refl
+        (ap (λ i. words_of r.shape (set s.words i new)) (sym word_is) ∙ set_count r.shape s.words new k below r.wide)
+        (parts_told board free_slots memo r.shape ws1 home s.views id me.0 w at parts l)
+        (one_told board free_slots memo r.shape ws home s.views r.parts r.one id me.0 u at live same ws.order ws.node (put_at ws.count k new)
+        (λ are. told_count r.shape ws.order ws.node ws.count me.0.stored are k new noted (is (sym (are.counts k) ∙ is_count))))
 
     -- its count and generation then, and those of the others
     pub new_count : (new c : ℕ) → count_of new ≡ c → count_of (put_at ws.count k new k) ≡ c
@@ -134,16 +152,17 @@ module _ {S : Type 0} (board : S → List (std.Option Cell)) (free_slots : S →
       let same = still s r at k inside new (up_generation x small (few s r at k inside)) in
       let gen : generation_of (count k) ≡ generation_of x = ap generation_of (put_at-same (ws s r at k inside).count k new) ∙ up_generation x small (few s r at k inside) in
       let w : View = record me.0 { counts = lifted held (generation_of x) me.0.counts } in
+      let noted : ℕ = count_by me.0.stored k + 1 in
       let parts = ⊎_elim
       (λ (row : HasRow me.0.draws.rows held). parts_raise_row board free_slots memo r.shape (ws s r at k inside) (home s r at k inside) s.views r.parts id me.0 at held count live
       (counted_row k me.0.draws.rows row.0 row.1 row.2 (ap (λ (y : Held). y.edge.index) row.3)) room
       (subst (IsHeldBy r.shape r.parts.function) row.3 (each_at (λ (y : Row). IsHeldBy r.shape r.parts.function y.held) me.0.draws.rows row.0 row.1 (r.parts.kept.each id (tally_of me.0) (at_map tally_of s.views id me.0 at)).rows row.2))
       up (others s r at k inside new) same)
       (λ by_share. parts_raise board free_slots memo r.shape (ws s r at k inside) (home s r at k inside) s.views r.parts id me.0 at held count live by_share.0 room (noted_held s r at by_share.0 held by_share.1) up (others s r at k inside new) same) may in (
-        w,
+        record w { stored = storing_count k noted me.0.stored },
         keeps,
         tt,
-        ends s r at k inside new w (subst (λ (g : ℕ). PartsOf r.shape (record (ws s r at k inside) { count = count }) (home s r at k inside) (set s.views id (record me.0 { counts = lifted held g me.0.counts }))) gen parts),
+        ends s r at k inside new noted (up_word x (count_by me.0.stored k) small (few s r at k inside)) w refl (subst (λ (g : ℕ). PartsOf r.shape (record (ws s r at k inside) { count = count }) (home s r at k inside) (set s.views id (record me.0 { counts = lifted held g me.0.counts }))) gen parts),
         refl,
       ))
 
@@ -158,12 +177,13 @@ module _ {S : Type 0} (board : S → List (std.Option Cell)) (free_slots : S →
       let owed_one : 0 < held_count k me.0.counts.owed = let e : one_if (k == k) ≡ 1 = ap one_if (eq-eqb k k refl) in let h : held_count k me.0.counts.owed ≡ one_if (k == k) + held_count k rest = ap (held_count k) owes in omega (arith, e, h) in
       let some_one = held_some s r at k inside (omega (arith, owed_one)) in
       let down : suc (count_of (count k)) ≡ count_of ((ws s r at k inside).count k) = ap (λ (y : ℕ). suc (count_of y)) (put_at-same (ws s r at k inside).count k new) ∙ down_count x small some_one ∙ ap count_of (sym (is_count s r at k inside)) in
-      let w : View = record me.0 { counts = record me.0.counts { owed = rest } } in (
-        w,
+      let w : View = record me.0 { counts = record me.0.counts { owed = rest } } in
+      let noted : ℕ = count_by me.0.stored k - 1 in (
+        record w { stored = storing_count k noted me.0.stored },
         keeps,
         tt,
-        ends s r at k inside new w (parts_lower board free_slots memo r.shape (ws s r at k inside) (home s r at k inside) s.views r.parts id me.0 at held rest count live owes down (others s r at k inside new) (still s r at k inside new (down_generation x small some_one))),
-        ap (λ (l : List Held). (record me.0 { counts = record me.0.counts { owed = l } }, me.1)) (ap others_of (sym owes)),
+        ends s r at k inside new noted (down_word x (count_by me.0.stored k) small some_one) w refl (parts_lower board free_slots memo r.shape (ws s r at k inside) (home s r at k inside) s.views r.parts id me.0 at held rest count live owes down (others s r at k inside new) (still s r at k inside new (down_generation x small some_one))),
+        (λ j same. (let e : k ≡ j = omega (arith, same) in λ i. (record me.0 { counts = record me.0.counts { owed = ap others_of (sym owes) i }; stored = counting_down (e i) me.0.stored }, me.1))),
       ))
 
   pub pins_slot : (word k : ℕ) → word ≡ count_at (shape_in me.0.draws) k → k < me.0.draws.slots → me.0.shares.order ≡ Holding → times k me.0.counts.pins ≡ 0
@@ -173,13 +193,14 @@ module _ {S : Type 0} (board : S → List (std.Option Cell)) (free_slots : S →
       let x : ℕ = n s r at k inside in
       let new : ℕ = (x + 1) % 2 ^ 64 in
       let up : count_of (put_at (ws s r at k inside).count k new k) ≡ suc (count_of ((ws s r at k inside).count k)) = new_count s r at k inside new (suc (count_of x)) (up_count x small (few s r at k inside)) ∙ ap (λ (y : ℕ). suc (count_of y)) (sym (is_count s r at k inside)) in
-      let w : View = record me.0 { counts = record me.0.counts { pins = k ∷ me.0.counts.pins } } in (
-        w,
+      let w : View = record me.0 { counts = record me.0.counts { pins = k ∷ me.0.counts.pins } } in
+      let noted : ℕ = count_by me.0.stored k + 1 in (
+        record w { stored = storing_count k noted me.0.stored },
         keeps,
         tt,
-        ends s r at k inside new w (parts_pin board free_slots memo r.shape (ws s r at k inside) (home s r at k inside) s.views r.parts id me.0 at k (put_at (ws s r at k inside).count k new) live holding once up (others s r at k inside new)
+        ends s r at k inside new noted (up_word x (count_by me.0.stored k) small (few s r at k inside)) w refl (parts_pin board free_slots memo r.shape (ws s r at k inside) (home s r at k inside) s.views r.parts id me.0 at k (put_at (ws s r at k inside).count k new) live holding once up (others s r at k inside new)
             (still s r at k inside new (up_generation x small (few s r at k inside)))),
-        (λ j same. ap (λ (i : ℕ). (record me.0 { counts = record me.0.counts { pins = i ∷ me.0.counts.pins } }, me.1)) (let e : k ≡ j = omega (arith, same) in e)),
+        (λ j same. ap (λ (i : ℕ). (record me.0 { counts = record me.0.counts { pins = i ∷ me.0.counts.pins }; stored = counting_up i me.0.stored }, me.1)) (let e : k ≡ j = omega (arith, same) in e)),
       ))
 
   pub unpins_slot : (word k : ℕ) (rest : List ℕ) → word ≡ count_at (shape_in me.0.draws) k → k < me.0.draws.slots → me.0.shares.order ≡ Holding → me.0.counts.pins ≡ k ∷ rest
@@ -191,11 +212,12 @@ module _ {S : Type 0} (board : S → List (std.Option Cell)) (free_slots : S →
       let pin_one : 0 < times k me.0.counts.pins = let e : one_if (k == k) ≡ 1 = ap one_if (eq-eqb k k refl) in let h : times k me.0.counts.pins ≡ one_if (k == k) + times k rest = ap (times k) pins in omega (arith, e, h) in
       let some_one = held_some s r at k inside (omega (arith, pin_one)) in
       let down : suc (count_of (put_at (ws s r at k inside).count k new k)) ≡ count_of ((ws s r at k inside).count k) = ap (λ (y : ℕ). suc (count_of y)) (put_at-same (ws s r at k inside).count k new) ∙ down_count x small some_one ∙ ap count_of (sym (is_count s r at k inside)) in
-      let w : View = record me.0 { counts = record me.0.counts { pins = rest } } in (
-        w,
+      let w : View = record me.0 { counts = record me.0.counts { pins = rest } } in
+      let noted : ℕ = count_by me.0.stored k - 1 in (
+        record w { stored = storing_count k noted me.0.stored },
         keeps,
         tt,
-        ends s r at k inside new w (parts_unpin board free_slots memo r.shape (ws s r at k inside) (home s r at k inside) s.views r.parts id me.0 at k rest (put_at (ws s r at k inside).count k new) holding pins down (others s r at k inside new)
+        ends s r at k inside new noted (down_word x (count_by me.0.stored k) small some_one) w refl (parts_unpin board free_slots memo r.shape (ws s r at k inside) (home s r at k inside) s.views r.parts id me.0 at k rest (put_at (ws s r at k inside).count k new) holding pins down (others s r at k inside new)
             (still s r at k inside new (down_generation x small some_one))),
-        ap (λ (l : List ℕ). (record me.0 { counts = record me.0.counts { pins = l } }, me.1)) (ap others_of (sym pins)),
+        (λ j same. (let e : k ≡ j = omega (arith, same) in λ i. (record me.0 { counts = record me.0.counts { pins = ap others_of (sym pins) i }; stored = counting_down (e i) me.0.stored }, me.1))),
       ))

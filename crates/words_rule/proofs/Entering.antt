@@ -31,7 +31,8 @@ use Rattle.words_rule.specs.Kept.{IsHeldBy}
 use Rattle.words_rule.specs.Phase.{with_op, with_walk}
 use Rattle.words_rule.specs.Tallies.{tally_of, parts_of}
 use Rattle.words_rule.specs.Seen.{HasShare, StandsSo}
-use Rattle.words_rule.specs.Rule.{Parts, Rule, footings_in}
+use Rattle.words_rule.specs.OneSession.{OneSession, storer_of}
+use Rattle.words_rule.specs.Rule.{Parts, Rule, footings_in, storers_in}
 use Rattle.words_rule.specs.Known.{Own, known_of, noted_content, own_none}
 use Rattle.words_rule.specs.Loads.{IsInside, sees_of}
 use Rattle.words_rule.specs.PhasePlays.{op_entered, walk_entered}
@@ -39,11 +40,12 @@ use Rattle.words_rule.proofs.Lists.{set_at}
 use Rattle.words_rule.proofs.Layouts.{set_phase}
 use Rattle.words_rule.proofs.Phases.{small_word}
 use Rattle.words_rule.proofs.Stepping.{shape_is, takes_share, parts_walk_in, parts_walk_owed}
-use Rattle.words_rule.proofs.Tabling.{after_word, set_set}
+use Rattle.words_rule.proofs.Tabling.{after_word, set_set, told_still}
 use Rattle.words_rule.proofs.Meeting.{content_true}
 use Rattle.words_rule.proofs.WalkSteps.{list_true}
 use Rattle.words_rule.proofs.FirstStands.{stands_first}
 use Rattle.words_rule.proofs.Learning.{with_notes, AllHave, words_at, held_at, each_word, each_held, met_here, below, lists_below, all_below, lists_left, lists_right, all_both, parts_noting, noting_function}
+use Rattle.words_rule.proofs.Draws.{one_still}
 use Rattle.free_list.specs.FreeSlots.{FreeSlots}
 
 some_denoted : (a b : Denoted) → Some a ≡ Some b → a ≡ b
@@ -186,7 +188,7 @@ module _ {S : Type 0} (board : S → List (std.Option Cell)) (free_slots : S →
         u,
         x.1,
         x.2,
-        record { shape = r1.shape; wide = r1.wide; long = r1.long; parts = subst (λ (l : List View). PartsOf r1.shape ws home l) (set_set s.views id v u) p },
+        record { shape = r1.shape; wide = r1.wide; long = r1.long; parts = subst (λ (l : List View). PartsOf r1.shape ws home l) (set_set s.views id v u) p; one = subst (λ (l : List View). OneSession r1.shape ws.order ws.node ws.count (storers_in l)) (set_set s.views id v u) (one_still r1.shape ws.order ws.node ws.count s1.views id v u at1 refl r1.one) },
         (
           ap (λ (q : Sat). q.1) t.2,
           (λ _. record {
@@ -194,6 +196,7 @@ module _ {S : Type 0} (board : S → List (std.Option Cell)) (free_slots : S →
             counts = ap (λ (y : View). y.counts) is;
             hand = ap (λ (y : View). y.hand) is;
             work = ap (λ (y : View). y.work) is;
+            stored = ap (λ (y : View). y.stored) is;
             shares = ap (λ (y : View). y.shares) is;
             stands = op_stands r1.shape ws home s1.views r1.parts id v at1 live1 share;
             rows = subst (λ (d : Draws). AreHeldBy (shape_in d) (noted_content u).function d.rows) (ap (λ (y : View). y.draws) is) (op_rows r1.shape ws home s1.views r1.parts id v at1 live1 share);
@@ -217,8 +220,8 @@ module _ {S : Type 0} (board : S → List (std.Option Cell)) (free_slots : S →
       let next : (n + 65536) % 2 ^ 64 ≡ n + 65536 = omega (arith, few) in
       let has_part : 0 < parts_of v.draws = let e : parts_of v.draws ≡ 1 = ap (λ b. cond b 1 (cond v.draws.closing ((64 - v.draws.given) + length v.draws.gone) 0)) live in omega (arith, e) in
       let words : words_of z (set s.words 1 ((n + 65536) % 2 ^ 64)) ≡ ws1 = set_phase z s.words ((n + 65536) % 2 ^ 64) (let l = r.wide in omega (arith, l)) ∙ ap (λ (k : ℕ). record ws { phase = k }) next in
-      let end : (u : View) → PartsOf z ws1 home (set s.views id u) → TheRule (record { words = set s.words 1 ((n + 65536) % 2 ^ 64); homes = s.homes; views = set s.views id u }) =
-      λ u parts. after_word board free_slots memo s r 1 ((n + 65536) % 2 ^ 64) (set s.views id u) s.homes ws1 refl words parts in
+      let end : (u : View) → storer_of u ≡ storer_of v → PartsOf z ws1 home (set s.views id u) → TheRule (record { words = set s.words 1 ((n + 65536) % 2 ^ 64); homes = s.homes; views = set s.views id u }) =
+      λ u same parts. after_word board free_slots memo s r 1 ((n + 65536) % 2 ^ 64) (set s.views id u) s.homes ws1 refl words parts (told_still board free_slots memo s r id v u at same) in
       dite (dec_lt n 8589934592)
       (λ low.
       let v1 : View = record v { shares = with_walk v.shares shares.Held n } in
@@ -228,7 +231,7 @@ module _ {S : Type 0} (board : S → List (std.Option Cell)) (free_slots : S →
         u,
         keeps,
         tt,
-        end u (subst (λ (l : List View). PartsOf z ws1 home l) (set_set s.views id v1 u) (walk_parts z ws1 home (set s.views id v1) p1 id v1 at1 live)),
+        end u refl (subst (λ (l : List View). PartsOf z ws1 home l) (set_set s.views id v1 u) (walk_parts z ws1 home (set s.views id v1) p1 id v1 at1 live)),
         (
           refl,
           (λ _. record {
@@ -236,6 +239,7 @@ module _ {S : Type 0} (board : S → List (std.Option Cell)) (free_slots : S →
             counts = refl;
             hand = refl;
             work = refl;
+            stored = refl;
             shares = refl;
             stands = walk_base z ws1 home (set s.views id v1) p1 id v1 at1 live;
             inside = walk_inside z ws1 home (set s.views id v1) p1 id v1 at1 live;
@@ -245,4 +249,4 @@ module _ {S : Type 0} (board : S → List (std.Option Cell)) (free_slots : S →
         ),
       ))
       (λ no_low. let u : View = record v { shares = with_walk v.shares shares.Owed n } in
-      (u, keeps, tt, end u (parts_walk_owed board free_slots memo z ws home s.views p id v at has_part free), (refl, (λ low. absurd (no_low low)), (λ _. refl))))
+      (u, keeps, tt, end u refl (parts_walk_owed board free_slots memo z ws home s.views p id v at has_part free), (refl, (λ low. absurd (no_low low)), (λ _. refl))))

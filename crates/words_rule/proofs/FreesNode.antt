@@ -19,6 +19,7 @@ use Rattle.words_rule.specs.Hands.{freeing}
 use Rattle.words_rule.specs.HeldContents.{KnowsAll, held_content, seen_without, with_word}
 use Rattle.words_rule.specs.HolderPlays.{HasFreed, emptied, node_freed}
 use Rattle.words_rule.specs.Kept.{IsHeldBy}
+use Rattle.words_rule.specs.OneSession.{storing_node}
 use Rattle.words_rule.specs.Rule.{Parts, Rule}
 use Rattle.words_rule.specs.Seen.{StandsSo}
 use Rattle.words_rule.specs.Tallies.{refs, tally_of, times}
@@ -28,12 +29,14 @@ use Rattle.words_rule.proofs.HolderKnows.{counted, same_content}
 use Rattle.words_rule.proofs.Layouts.{set_node}
 use Rattle.words_rule.proofs.Rewrites.{order_by_full}
 use Rattle.words_rule.proofs.Stepping.{shape_is}
+use Rattle.words_rule.proofs.Handed.{moved}
+use Rattle.words_rule.proofs.OneSessions.{one_told, parts_told, told_node}
 use Rattle.words_rule.proofs.Tabling.{after_word}
 use Rattle.free_list.specs.FreeSlots.{FreeSlots}
 
 -- what the seat has and knows after it
 abbrev emptying : View → ℕ → List ℕ → View
-emptying v q list = record v { hand = freeing q list v.hand; known = record v.known { words = with_word q 0 v.known.words; seen = seen_without q v.known.seen } }
+emptying v q list = record v { hand = freeing q list v.hand; known = record v.known { words = with_word q 0 v.known.words; seen = seen_without q v.known.seen }; stored = storing_node q 0 v.stored }
 
 no_bits : unpack_of 0 ≡ None
 no_bits = refl
@@ -64,6 +67,7 @@ module _ (v : View) (know : KnowsAll v) (q : ℕ) (list : List ℕ) (inside : q 
   has_freed = record {
     still = record { draws = refl; shares = refl; counts = refl; work = refl; told = refl; pending = refl };
     hand = refl;
+    stored = refl;
     content = content_after;
     bits_are = bits_put q 0 v.known.words;
     knows = knows_after;
@@ -86,7 +90,7 @@ module _ {S : Type 0} (board : S → List (std.Option Cell)) (free_slots : S →
 
   module _ (z : Shape) (ws : Words) (home : ℕ → Option (Option (std.Option S))) (vs : List View) (r : PartsOf z ws home vs) (id : ℕ) (v : View) (at : get_elem? vs id ≡ some v) where
     parts_emptied : v.draws.live ≡ true → v.shares.full ≡ Holding → KnowsAll v → (q : ℕ) (list : List ℕ) → q < v.draws.slots → v.hand.memo ≡ true → v.hand.taken ≡ None → v.hand.loose ≡ Some q → v.hand.free ≡ Some list → CanFree (held_content v) q
-        → PartsOf z (record ws { node = put_at ws.node q 0 }) home (set vs id (emptying v q list))
+        → PartsOf z (record ws { node = put_at ws.node q 0 }) home (set vs id (moved v (freeing q list v.hand) (emptying v q list).known))
     parts_emptied live full know q list inside has_memo none_taken loose free can =
         let holding = order_by_full board free_slots memo z ws home vs r id v at full in
         let w : Content = content_of z ws.node r.orders r.function r.half in
@@ -116,13 +120,15 @@ module _ {S : Type 0} (board : S → List (std.Option Cell)) (free_slots : S →
       let ws = words_of z s.words in
       let shape = shape_is board free_slots memo z ws home s.views p id v at live in
       let below : q < z.slots = subst (λ (y : Shape). q < y.slots) (sym shape) inside in
+      let ws1 : Words = record ws { node = put_at ws.node q 0 } in
       let u : View = emptying v q free.0 in (
         u,
         keeps,
         tt,
         subst (λ (i : ℕ). TheRule (record { words = set s.words i 0; homes = s.homes; views = set s.views id u })) (ap (λ (y : Shape). node_at y q) shape)
-            (after_word board free_slots memo s r (node_at z q) 0 (set s.views id u) s.homes (record ws { node = put_at ws.node q 0 }) refl (set_node z s.words 0 q below r.wide)
-            (parts_emptied z ws home s.views p id v at live full know q free.0 inside has_memo none_taken loose free.1 can)),
+            (after_word board free_slots memo s r (node_at z q) 0 (set s.views id u) s.homes ws1 refl (set_node z s.words 0 q below r.wide)
+            (parts_told board free_slots memo z ws1 home s.views id v (moved v u.hand u.known) at (parts_emptied z ws home s.views p id v at live full know q free.0 inside has_memo none_taken loose free.1 can) u.stored)
+            (one_told board free_slots memo z ws home s.views p r.one id v u at live refl ws.order ws1.node ws.count (λ are. told_node z ws.order ws.node ws.count v.stored are q 0))),
         (
           refl,
           refl,

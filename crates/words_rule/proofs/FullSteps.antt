@@ -100,7 +100,7 @@ module _ {S : Type 0} (board : S → List (std.Option Cell)) (free_slots : S →
           w,
           keeps,
           tt,
-          ends board free_slots memo slots id me live s r at k k refl w (parts_full_taken r.shape (ws board free_slots memo slots id me live s r at) (home board free_slots memo slots id me live s r at) s.views r.parts id me.0 at claim none_seen),
+          ends board free_slots memo slots id me live s r at k k refl w refl (parts_full_taken r.shape (ws board free_slots memo slots id me live s r at) (home board free_slots memo slots id me live s r at) s.views r.parts id me.0 at claim none_seen),
           ((λ _. refl), (λ some_seen. absurd (some_seen none_seen))),
         ))
         (λ some_seen. (me.0, keeps, tt, stays board free_slots memo s 1 id me r at, ((λ none_seen. absurd (some_seen none_seen)), (λ _. refl))))
@@ -115,7 +115,7 @@ module _ {S : Type 0} (board : S → List (std.Option Cell)) (free_slots : S →
           w,
           keeps,
           tt,
-          ends board free_slots memo slots id me live s r at (k - 8589934592) (bit_xor k 8589934592) (xor_set k few (omega (arith, few, most))) w
+          ends board free_slots memo slots id me live s r at (k - 8589934592) (bit_xor k 8589934592) (xor_set k few (omega (arith, few, most))) w refl
               (parts_full_left r.shape (ws board free_slots memo slots id me live s r at) (home board free_slots memo slots id me live s r at) s.views r.parts id me.0 at full half due),
           refl,
         )

@@ -32,6 +32,7 @@ use Rattle.words_rule.proofs.Stepping.{shape_is}
 use Rattle.words_rule.proofs.Tabling.{stays, takes_turn, gives_turn, takes_free_list, stores_next}
 use Rattle.words_rule.proofs.Storing.{pushes_noted}
 use Rattle.words_rule.proofs.NodeLoads.{lists_back}
+use Rattle.words_rule.proofs.Draws.{one_still}
 use Rattle.free_list.specs.FreeSlots.{FreeSlots}
 
 pub stands_at : (l : List ℕ) (s : ℕ) → steps.Lists l s → Stands l s
@@ -190,6 +191,7 @@ module _ {S : Type 0} (board : S → List (std.Option Cell)) (free_slots : S →
           wide = r.wide;
           long = r.long;
           parts = parts_walk board free_slots memo z ws home s.views p id v at walk (inl share) live has below (sym head_is) refl (λ is. absurd (false_true is));
+          one = one_still z ws.order ws.node ws.count s.views id v w at refl r.one;
         }),
         (
           p.chain head,

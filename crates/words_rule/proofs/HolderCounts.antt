@@ -15,6 +15,7 @@ use Rattle.handle_count.specs.CountWords.{count_of, generation_of}
 use Rattle.node_store.specs.Contents.{IsSound, IsUsed}
 use Rattle.node_store.specs.Changes.{put_at}
 use Rattle.node_store.proofs.Rewriting.{put_at-same, put_at-other}
+use Rattle.words_rule.proofs.OneLoads.{finds_told}
 use Rattle.free_list.specs.FreeSlots.{FreeSlots}
 use Rattle.words_rule.specs.declared.cell.Cell.{Cell}
 use Rattle.words_rule.specs.declared.view.Hold.TheVariants.{Holding}
@@ -27,10 +28,12 @@ use Rattle.words_rule.specs.HolderPlays.{HasFound, HasPinned, HasRenewed, count_
 use Rattle.words_rule.specs.Known.{is_among}
 use Rattle.words_rule.specs.Layout.{count_at, words_of}
 use Rattle.words_rule.specs.Phase.{footing_of}
+use Rattle.words_rule.specs.OneSession.{count_by, storing_count}
 use Rattle.words_rule.specs.Rule.{Parts, Rule, footings_in, tallies_in}
+use Rattle.words_rule.proofs.Draws.{one_still}
 use Rattle.words_rule.specs.Shapes.{shape_in}
 use Rattle.words_rule.specs.Tallies.{one_if, refs, tally_of, times}
-use Rattle.words_rule.proofs.CountSteps.{down_count, down_generation, ends, few, held_some, home, is_count, n, new_count, others, still, up_count, up_generation, ws}
+use Rattle.words_rule.proofs.CountSteps.{down_count, down_generation, down_word, ends, few, held_some, home, is_count, n, new_count, others, still, up_count, up_generation, up_word, ws}
 use Rattle.words_rule.proofs.Generating.{parts_generation}
 use Rattle.words_rule.proofs.HeldNotes.{never_among}
 use Rattle.words_rule.proofs.LearnsAll.{parts_aging, sound_counted}
@@ -175,9 +178,13 @@ module _ {S : Type 0} (board : S → List (std.Option Cell)) (free_slots : S →
   abbrev with_pins : View → List ℕ → View
   with_pins v pins = record v { counts = record v.counts { pins = pins } }
 
+  -- whose count word is noted
+  abbrev noting_count : ℕ → ℕ → View → View
+  noting_count k word v = record v { stored = storing_count k word v.stored }
+
   -- a slot in use is pinned
-  has_pinned : (v : View) (k : ℕ) → KnowsAll v → IsUsed (held_content v) k → (held_content v).pinned k ≡ false → HasPinned k true (k ∷ v.counts.pins) v (with_pins v (k ∷ v.counts.pins))
-  has_pinned v k all used unpinned =
+  has_pinned : (v : View) (k word : ℕ) → KnowsAll v → IsUsed (held_content v) k → (held_content v).pinned k ≡ false → HasPinned k true (k ∷ v.counts.pins) word v (noting_count k word (with_pins v (k ∷ v.counts.pins)))
+  has_pinned v k word all used unpinned =
       let w = held_content v in
       let none_yet : times k v.counts.pins ≡ 0 = never_among v.counts.pins k unpinned in record {
         is = refl;
@@ -211,8 +218,8 @@ module _ {S : Type 0} (board : S → List (std.Option Cell)) (free_slots : S →
       more_refs s = omega arith
 
   -- a pin goes
-  has_unpinned : (v : View) (k : ℕ) → KnowsAll v → (held_content v).pinned k ≡ true → HasPinned k false (numbers_without k v.counts.pins) v (with_pins v (numbers_without k v.counts.pins))
-  has_unpinned v k all pinned =
+  has_unpinned : (v : View) (k word : ℕ) → KnowsAll v → (held_content v).pinned k ≡ true → HasPinned k false (numbers_without k v.counts.pins) word v (noting_count k word (with_pins v (numbers_without k v.counts.pins)))
+  has_unpinned v k word all pinned =
       let w = held_content v in
       let was = once_gone k v.counts.pins pinned (all.once k) in
       let same : is_among (numbers_without k v.counts.pins) ≡ put_at w.pinned k false = put_is w.pinned (is_among (numbers_without k v.counts.pins)) k false (not_among (numbers_without k v.counts.pins) k (without_here k v.counts.pins)) (λ t ne. among_else k t v.counts.pins ne) in record {
@@ -243,13 +250,15 @@ module _ {S : Type 0} (board : S → List (std.Option Cell)) (free_slots : S →
       let new : ℕ = (x + 1) % 2 ^ 64 in
       let few_now = few board free_slots memo slots id me live s r at k inside in
       let up : count_of (put_at c k new k) ≡ suc (count_of (c k)) = new_count board free_slots memo slots id me live s r at k inside new (suc (count_of x)) (up_count x small few_now) ∙ ap (λ (y : ℕ). suc (count_of y)) (sym (is_count board free_slots memo slots id me live s r at k inside)) in
-      let w : View = with_pins me.0 (k ∷ me.0.counts.pins) in (
-        w,
+      let w : View = with_pins me.0 (k ∷ me.0.counts.pins) in
+      let noted : ℕ = count_by me.0.stored k + 1 in
+      let u : View = noting_count k noted w in (
+        u,
         keeps,
         tt,
-        ends board free_slots memo slots id me live s r at k inside new w (parts_pin board free_slots memo r.shape (ws board free_slots memo slots id me live s r at k inside) (home board free_slots memo slots id me live s r at k inside) s.views r.parts id me.0 at k (put_at c k new) live holding (never_among me.0.counts.pins k unpinned) up
+        ends board free_slots memo slots id me live s r at k inside new noted (up_word x (count_by me.0.stored k) small few_now) w refl (parts_pin board free_slots memo r.shape (ws board free_slots memo slots id me live s r at k inside) (home board free_slots memo slots id me live s r at k inside) s.views r.parts id me.0 at k (put_at c k new) live holding (never_among me.0.counts.pins k unpinned) up
             (others board free_slots memo slots id me live s r at k inside new) (still board free_slots memo slots id me live s r at k inside new (up_generation x small few_now))),
-        (refl, refl, (λ j same. subst (λ (i : ℕ). HasPinned i true (i ∷ me.0.counts.pins) me.0 w) (let e : k ≡ j = omega (arith, same) in e) (has_pinned me.0 k all used unpinned))),
+        (refl, refl, (λ j same. subst (λ (i : ℕ). HasPinned i true (i ∷ me.0.counts.pins) (count_by me.0.stored i + 1) me.0 u) (let e : k ≡ j = omega (arith, same) in e) (has_pinned me.0 k noted all used unpinned))),
       ))
 
   pub unpins_held : (slots id word : ℕ) (me : Sat) (k : ℕ) → word ≡ count_at (shape_in me.0.draws) k → me.0.draws.live ≡ true → me.0.shares.order ≡ Holding → KnowsAll me.0 → (held_content me.0).pinned k ≡ true → k < me.0.draws.slots
@@ -262,13 +271,15 @@ module _ {S : Type 0} (board : S → List (std.Option Cell)) (free_slots : S →
       let pin_one = among_times me.0.counts.pins k pinned in
       let some_one = held_some board free_slots memo slots id me live s r at k inside (omega (arith, pin_one)) in
       let down : suc (count_of (put_at c k new k)) ≡ count_of (c k) = ap (λ (y : ℕ). suc (count_of y)) (put_at-same c k new) ∙ down_count x small some_one ∙ ap count_of (sym (is_count board free_slots memo slots id me live s r at k inside)) in
-      let w : View = with_pins me.0 (numbers_without k me.0.counts.pins) in (
-        w,
+      let w : View = with_pins me.0 (numbers_without k me.0.counts.pins) in
+      let noted : ℕ = count_by me.0.stored k - 1 in
+      let u : View = noting_count k noted w in (
+        u,
         keeps,
         tt,
-        ends board free_slots memo slots id me live s r at k inside new w (parts_unpin_any board free_slots memo r.shape (ws board free_slots memo slots id me live s r at k inside) (home board free_slots memo slots id me live s r at k inside) s.views r.parts id me.0 at k (numbers_without k me.0.counts.pins) (put_at c k new) holding
+        ends board free_slots memo slots id me live s r at k inside new noted (down_word x (count_by me.0.stored k) small some_one) w refl (parts_unpin_any board free_slots memo r.shape (ws board free_slots memo slots id me live s r at k inside) (home board free_slots memo slots id me live s r at k inside) s.views r.parts id me.0 at k (numbers_without k me.0.counts.pins) (put_at c k new) holding
             (once_gone k me.0.counts.pins pinned (all.once k)) down (others board free_slots memo slots id me live s r at k inside new) (still board free_slots memo slots id me live s r at k inside new (down_generation x small some_one))),
-        (refl, refl, (λ j same. subst (λ (i : ℕ). HasPinned i false (numbers_without i me.0.counts.pins) me.0 w) (let e : k ≡ j = omega (arith, same) in e) (has_unpinned me.0 k all pinned))),
+        (refl, refl, (λ j same. subst (λ (i : ℕ). HasPinned i false (numbers_without i me.0.counts.pins) (count_by me.0.stored i - 1) me.0 u) (let e : k ≡ j = omega (arith, same) in e) (has_unpinned me.0 k noted all pinned))),
       ))
 
   -- what is had of the slot, and what is counted, as numbers
@@ -409,13 +420,14 @@ module _ {S : Type 0} (board : S → List (std.Option Cell)) (free_slots : S →
       let v1 : View = record me.0 { counts = record me.0.counts { zeros = zeros } } in
       let parts = parts_own board free_slots memo r.shape (words_of r.shape s.words) (λ (j : ℕ). get_elem? s.homes j) s.views r.parts id me.0 at k holding (same ∙ alone ∙ sym own) in
       let s1 : State (std.Option S) View = record { words = s.words; homes = s.homes; views = set s.views id v1 } in
-      let r1 : TheRule s1 = record { shape = r.shape; wide = r.wide; long = r.long; parts = parts } in
+      let w0 = words_of r.shape s.words in
+      let r1 : TheRule s1 = record { shape = r.shape; wide = r.wide; long = r.long; parts = parts; one = one_still r.shape w0.order w0.node w0.count s.views id me.0 v1 at refl r.one } in
       let r2 = rule_work board free_slots memo s1 id v1 (set_at s.views id me.0 v1 at) u.work r1 in (
         u,
         keeps,
         tt,
         subst (λ (y : List ℕ × List View). TheRule (record { words = y.0; homes = s.homes; views = y.1 })) (λ j. (sym (set-get_or s.words i 0) j, set_set s.views id v1 u j)) r2,
-        (refl, refl, (λ j same_word. subst (λ (t : ℕ). HasFound t x me.0 u) (one j same_word) (has_found s r id me at live holding all k inside slots zeros (λ _. zero_first k me.0.counts.zeros) (λ j some_times. more_zeros k j me.0.counts.zeros some_times) (λ j some_times. zero_or k j me.0.counts.zeros (refs k (tally_of me.0) ≡ p) own some_times)))),
+        (refl, refl, (λ j same_word. subst (λ (t : ℕ). HasFound t x me.0 u) (one j same_word) (has_found s r id me at live holding all k inside slots zeros (λ _. zero_first k me.0.counts.zeros) (λ j some_times. more_zeros k j me.0.counts.zeros some_times) (λ j some_times. zero_or k j me.0.counts.zeros (refs k (tally_of me.0) ≡ p) own some_times))), finds_told board free_slots memo s r id me.0 at live i),
       ))
       -- others count it too
       (λ more.
@@ -426,7 +438,7 @@ module _ {S : Type 0} (board : S → List (std.Option Cell)) (free_slots : S →
         keeps,
         tt,
         subst (λ (l : List ℕ). TheRule (record { words = l; homes = s.homes; views = set s.views id u })) (sym (set-get_or s.words i 0)) r1,
-        (refl, refl, (λ j same_word. subst (λ (t : ℕ). HasFound t x me.0 u) (one j same_word) (has_found s r id me at live holding all k inside slots me.0.counts.zeros (λ no_count. absurd (some_left no_count)) (λ j some_times. some_times) (λ j some_times. inl some_times)))),
+        (refl, refl, (λ j same_word. subst (λ (t : ℕ). HasFound t x me.0 u) (one j same_word) (has_found s r id me at live holding all k inside slots me.0.counts.zeros (λ no_count. absurd (some_left no_count)) (λ j some_times. some_times) (λ j some_times. inl some_times))), finds_told board free_slots memo s r id me.0 at live i),
       )))
 
   -- the new generation of a slot that nothing holds
@@ -451,15 +463,16 @@ module _ {S : Type 0} (board : S → List (std.Option Cell)) (free_slots : S →
       (λ same. subst (λ (y : View). Each (λ (a : SlotGeneration). a.slot ≢ k) y.known.ages) (some-injective v1 o (sym at1 ∙ (ap (λ j. get_elem? (set s.views id v1) j) (sym same) ∙ there))) (ages_off k v.known.ages))
       (λ apart. absurd (one_order w0.phase (footings_in (set s.views id v1)) p1.phase id i (footing_of v1) (footing_of o) apart (at_map footing_of (set s.views id v1) id v1 at1) (at_map footing_of (set s.views id v1) i o there) holding its))) in
       let w1 = record w0 { count = c } in
+      let noted : View = noting_count k x u in
       let p3 = parts_aging board free_slots memo z w1 homes (set s.views id v1) p2 id v1 at1 (with_age k g v.known.ages) (λ h. (ap generation_of (put_at-same w0.count k x), (p2.holders id v1 at1).0 h)) in (
-        u,
+        noted,
         keeps,
         tt,
-        ends board free_slots memo slots id me live s r at k inside x u (subst (λ (l : List View). Parts board free_slots memo z w1 homes l) (set_set s.views id v1 u) p3),
-        (refl, refl, (λ j same. subst (λ (t : ℕ). HasRenewed t x v u) (let e : k ≡ j = omega (arith, same) in e) (has_renewed v k x all))),
+        ends board free_slots memo slots id me live s r at k inside x x (λ _. refl) u refl (subst (λ (l : List View). Parts board free_slots memo z w1 homes l) (set_set s.views id v1 u) p3),
+        (refl, refl, (λ j same. subst (λ (t : ℕ). HasRenewed t x v noted) (let e : k ≡ j = omega (arith, same) in e) (has_renewed v k x all))),
       ))
     where
-      has_renewed : (v : View) (k x : ℕ) → KnowsAll v → HasRenewed k x v (with_ages v (with_age k (generation_of x) v.known.ages))
+      has_renewed : (v : View) (k x : ℕ) → KnowsAll v → HasRenewed k x v (noting_count k x (with_ages v (with_age k (generation_of x) v.known.ages)))
       has_renewed v k x all =
           let w = held_content v in
           let g : ℕ = generation_of x in

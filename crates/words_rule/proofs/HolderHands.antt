@@ -29,7 +29,7 @@ use Rattle.words_rule.proofs.Lists.{set_at}
 use Rattle.words_rule.proofs.Memos.{parts_memo}
 use Rattle.words_rule.proofs.Remembering.{remembered_given, remembered_taken}
 use Rattle.words_rule.proofs.Rewrites.{nobody_takes}
-use Rattle.words_rule.proofs.Tabling.{after_word, gives_free_list, stays, takes_free_list}
+use Rattle.words_rule.proofs.Tabling.{after_word, gives_free_list, stays, takes_free_list, told_still}
 
 -- what stands at an index of a list, the list has
 lists_at : (l : List ℕ) (k s : ℕ) → get_elem? l k ≡ some s → steps.Lists l s
@@ -138,7 +138,7 @@ module _ {S : Type 0} (board : S → List (std.Option Cell)) (free_slots : S →
         takes 2 (Some x),
         y.2,
         subst (λ b. TheRule (stepped s 5 (either b new n) id me.1 w (takes 2 (Some x)))) (sym (eq-eqb n 0 hit))
-            (after_word board free_slots memo s r 5 new (set s.views id w) hs (record ws { memo_turn = new }) (length-set s.homes 2 none) (set_memo_turn z s.words new (let l = r.wide in omega (arith, l))) parts),
+            (after_word board free_slots memo s r 5 new (set s.views id w) hs (record ws { memo_turn = new }) (length-set s.homes 2 none) (set_memo_turn z s.words new (let l = r.wide in omega (arith, l))) parts (told_still board free_slots memo s r id v w at refl)),
         (refl, (λ _. (x, refl, y.3.0)), (λ miss. absurd (miss hit))),
       ))
       (λ miss. (
@@ -167,7 +167,7 @@ module _ {S : Type 0} (board : S → List (std.Option Cell)) (free_slots : S →
         gives,
         tt,
         subst (λ (c : List (ℕ × std.Option S)). TheRule (stepped s 5 0 id c w gives)) (sym has)
-            (after_word board free_slots memo s r 5 0 (set s.views id w) hs (record ws { memo_turn = 0 }) (length-set s.homes 2 (some (Some x))) (set_memo_turn z s.words 0 (let l = r.wide in omega (arith, l))) parts),
+            (after_word board free_slots memo s r 5 0 (set s.views id w) hs (record ws { memo_turn = 0 }) (length-set s.homes 2 (some (Some x))) (set_memo_turn z s.words 0 (let l = r.wide in omega (arith, l))) parts (told_still board free_slots memo s r id v w at refl)),
         refl,
       )
     where

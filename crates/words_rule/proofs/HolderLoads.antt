@@ -32,6 +32,8 @@ use Rattle.words_rule.proofs.NodeLoads.{lists_back}
 use Rattle.words_rule.proofs.Rewrites.{nobody_shares}
 use Rattle.words_rule.proofs.Stepping.{shape_is}
 use Rattle.words_rule.proofs.Tabling.{stays}
+use Rattle.words_rule.proofs.Draws.{one_still}
+use Rattle.words_rule.proofs.OneLoads.{finds_told}
 use Rattle.free_list.specs.FreeSlots.{FreeSlots}
 
 lists_on : (l : List ℕ) (s : ℕ) → Lists l s → steps.Lists l s
@@ -59,7 +61,7 @@ module _ {S : Type 0} (board : S → List (std.Option Cell)) (free_slots : S →
       let i : ℕ = node_at (shape_in v.draws) q in
       let n : ℕ = get_or s.words i 0 in
       let found : n ≡ held_bits v q = ap (λ (y : Shape). get_or s.words (node_at y q) 0) (sym shape) ∙ sym (here_node z s.words 0 q below) ∙ bits_are board free_slots memo z ws home s.views p id v at live holding k q below in
-      (v, keeps, tt, stays board free_slots memo s i id me r at, (refl, λ j same. found ∙ ap (held_bits v) (let e : q ≡ j = omega (arith, same) in e))))
+      (v, keeps, tt, stays board free_slots memo s i id me r at, (refl, (λ j same. found ∙ ap (held_bits v) (let e : q ≡ j = omega (arith, same) in e)), finds_told board free_slots memo s r id me.0 at live i)))
 
   -- who holds the order is the only one with a slot on no chain
   loose_alone : (s : State (std.Option S) View) (r : TheRule s) (id : ℕ) (v : View) → get_elem? s.views id ≡ some v → v.shares.order ≡ Holding → (t i : ℕ) → r.parts.tables.loose t ≡ some i → v.hand.loose ≡ Some t
@@ -104,6 +106,7 @@ module _ {S : Type 0} (board : S → List (std.Option Cell)) (free_slots : S →
           wide = r.wide;
           long = r.long;
           parts = parts_walk board free_slots memo z ws home s.views p id v at walk (inr holding) live has below (sym head_is) refl (λ _. holding);
+          one = one_still z ws.order ws.node ws.count s.views id v w at refl r.one;
         }),
         (
           chain,

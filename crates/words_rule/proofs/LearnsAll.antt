@@ -42,7 +42,7 @@ use Rattle.words_rule.specs.Seen.{HasShare, KeepsSlots, StandsSo}
 use Rattle.words_rule.specs.Tallies.{one_if, times}
 use Rattle.words_rule.proofs.CountLoads.{counted_denotes, none_own}
 use Rattle.words_rule.proofs.CountedNotes.{each_noted, noted_below, noted_stays, noted_there}
-use Rattle.words_rule.proofs.Draws.{by_full, by_pending}
+use Rattle.words_rule.proofs.Draws.{by_full, by_pending, one_still}
 use Rattle.words_rule.proofs.HolderKnows.{counted, decoded}
 use Rattle.words_rule.proofs.Learning.{below, noting_function, parts_noting, with_notes, words_at}
 use Rattle.words_rule.proofs.Lists.{each_set, set_at}
@@ -456,7 +456,7 @@ module _ {S : Type 0} (board : S → List (std.Option Cell)) (free_slots : S →
         keeps,
         tt,
         subst (λ (l : List ℕ). Rule board free_slots memo (record { words = l; homes = s.homes; views = set s.views id u })) (sym (set-get_or s.words 1 0))
-            (record { shape = z; wide = r.wide; long = r.long; parts = parts_learnt z ws home s.views p id v at live holding unpinned unzeroed unswapped none_half }),
+            (record { shape = z; wide = r.wide; long = r.long; parts = parts_learnt z ws home s.views p id v at live holding unpinned unzeroed unswapped none_half; one = one_still z ws.order ws.node ws.count s.views id v u at refl r.one }),
         (
           refl,
           record {
@@ -466,6 +466,7 @@ module _ {S : Type 0} (board : S → List (std.Option Cell)) (free_slots : S →
             counts = refl;
             known = refl;
             work = refl;
+            stored = refl;
             knows = knows_learnt z ws home s.views p id v at live holding unpinned unzeroed unswapped none_half;
             above = notes_learnt z ws home s.views p id v at live holding unpinned unzeroed unswapped none_half;
             stays = stays_learnt z ws home s.views p id v at live holding unpinned unzeroed unswapped none_half;

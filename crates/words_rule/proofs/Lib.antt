@@ -30,11 +30,12 @@ pub mod Rewrites
 pub mod Freeing
 pub mod Stepping
 pub mod Noting
+pub mod OneSessions
+pub mod OneLoads
 pub mod Tabling
 pub mod Working
 pub mod Storing
 pub mod Loosing
-pub mod Looking
 pub mod Holds
 pub mod Sessions
 pub mod Resting

@@ -41,7 +41,7 @@ use Rattle.words_rule.proofs.Lists.{set_at}
 use Rattle.words_rule.proofs.Meeting.{content_true, narrow, word_stands}
 use Rattle.words_rule.proofs.Remembering.{entries_carried, remembered_taken, remembered_given}
 use Rattle.words_rule.proofs.Standing.{stands_more}
-use Rattle.words_rule.proofs.Tabling.{after_word, set_set, stays}
+use Rattle.words_rule.proofs.Tabling.{after_word, set_set, stays, told_still}
 use Rattle.free_list.specs.FreeSlots.{FreeSlots}
 
 never : (word : Word) → ◌≡◌ {A = std.Option Word} None (Some word) → ⊥
@@ -248,7 +248,8 @@ module _ {S : Type 0} (board : S → List (std.Option Cell)) (free_slots : S →
         y.2,
         subst (λ b. TheRule (stepped s 5 (either b new n) id me.1 w (takes 2 (Some x)))) (sym (eq-eqb n 0 hit))
             (after_word board free_slots memo s r 5 new (set s.views id w) hs (record ws { memo_turn = new }) (length-set s.homes 2 none) (set_memo_turn z s.words new (let l = r.wide in omega (arith, l)))
-            (subst (λ (y : List View). PartsOf z (record ws { memo_turn = new }) (λ k. get_elem? hs k) y) (set_set s.views id u w) parts)),
+            (subst (λ (y : List View). PartsOf z (record ws { memo_turn = new }) (λ k. get_elem? hs k) y) (set_set s.views id u w) parts)
+            (told_still board free_slots memo s r id v w at refl)),
         (
           refl,
           (λ _. (
@@ -257,6 +258,7 @@ module _ {S : Type 0} (board : S → List (std.Option Cell)) (free_slots : S →
               seat = record { draws = refl; shares = refl; counts = refl; orders = refl };
               hand = refl;
               work = refl;
+              stored = refl;
               learns = record { kept = l.kept; room = l.room; words = l.words; heads = l.heads };
               stands = λ st. stands_handed (known_of u o) (known_of w o).hand (all_stand z ws home s.views p id v at live share o few st);
               holds = all_hold z ws home s.views p id v at live share o (memo x) y.3;
@@ -292,6 +294,6 @@ module _ {S : Type 0} (board : S → List (std.Option Cell)) (free_slots : S →
         gives,
         tt,
         subst (λ (c : List (ℕ × std.Option S)). TheRule (stepped s 5 0 id c w gives)) (sym has)
-            (after_word board free_slots memo s r 5 0 (set s.views id w) hs (record ws { memo_turn = 0 }) (length-set s.homes 2 (some (Some x))) (set_memo_turn z s.words 0 (let l = r.wide in omega (arith, l))) parts),
+            (after_word board free_slots memo s r 5 0 (set s.views id w) hs (record ws { memo_turn = 0 }) (length-set s.homes 2 (some (Some x))) (set_memo_turn z s.words 0 (let l = r.wide in omega (arith, l))) parts (told_still board free_slots memo s r id v w at refl)),
         refl,
       )

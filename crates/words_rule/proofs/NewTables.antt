@@ -159,6 +159,7 @@ module _ (z : Shape) where
       | inr le ↦ ap unpack_of (w.behind s le) ∙ sym (word_behind z.variables s le)
     ];
     fits = w.fits;
+    behind = w.behind;
   }
 
   -- the slots from 3 on are put on chains
@@ -209,7 +210,8 @@ module _ (z : Shape) where
         order = λ p lt. ap (λ (x : Words). x.order p) rest ∙ here_order z ws 0 p lt ∙ orders p lt;
         node = λ s. ap unpack_of (node_is s) ∙ written.node s;
         fits = λ s. subst (λ (x : ℕ). x < 18446744073709551616) (sym (node_is s)) (written.fits s);
-        count = λ k. ap (λ (x : Words). count_of (x.count k)) rest ∙ ap count_of (area_zero (count_at z) z.slots ws (λ j lt. empty (count_at z j) (inr (omega arith))) k);
+        behind = λ s le. node_is s ∙ written.behind s le;
+        count = λ k. ap (λ (x : Words). x.count k) rest ∙ area_zero (count_at z) z.slots ws (λ j lt. empty (count_at z j) (inr (omega arith))) k;
         chain = a.chain;
         chains = a.chains;
       }
@@ -235,6 +237,7 @@ module _ {S : Type 0} (board : S → List (std.Option Cell)) (free_slots : S →
     order = first.order;
     node = first.node;
     fits = first.fits;
+    behind = first.behind;
     count = first.count;
     at_board = at_board;
     board_home = refl;

@@ -23,6 +23,7 @@ use Rattle.words_rule.specs.Views.{orders_of}
 use Rattle.words_rule.specs.Shapes.{shape_in}
 use Rattle.words_rule.specs.Layout.{Shape, Words, words_of, node_at}
 use Rattle.words_rule.specs.Chains.{Lists}
+use Rattle.words_rule.specs.OneSession.{Storer, storer_of}
 use Rattle.words_rule.specs.Rule.{Parts, Rule}
 use Rattle.words_rule.specs.Loads.{LoadedNode, IsSeatOf}
 use Rattle.words_rule.specs.Known.{Own, walk_of, known_of}
@@ -34,6 +35,7 @@ use Rattle.words_rule.proofs.Handed.{hand_at}
 use Rattle.words_rule.proofs.Meeting.{content_true, word_stands, meets, AreKnown}
 use Rattle.words_rule.proofs.Noticing.{learns_trans, noticing, noticed_parts, noticed_orders, noticed_here, noticed_has, noticed_learns}
 use Rattle.words_rule.proofs.Standing.{stands_more}
+use Rattle.words_rule.proofs.Draws.{one_still}
 use Rattle.free_list.specs.FreeSlots.{FreeSlots}
 
 never : (word : Word) → ◌≡◌ {A = std.Option Word} None (Some word) → ⊥
@@ -92,6 +94,7 @@ module _ {S : Type 0} (board : S → List (std.Option Cell)) (free_slots : S →
       pub seat : IsSeatOf v view
       pub work : view.work ≡ v.work
       pub hands : view.hand ≡ v.hand
+      pub same : storer_of view ≡ storer_of v
 
     -- a word in use is noted, and its children
     pub loads_at : (q : ℕ) (word : Word) → unpack_of (ws.node q) ≡ Some word → K.view.fulls < 18446744073709551616 → LoadedAt q
@@ -116,6 +119,7 @@ module _ {S : Type 0} (board : S → List (std.Option Cell)) (free_slots : S →
           seat = record { draws = refl; shares = refl; counts = refl; orders = refl };
           hands = refl;
           work = refl;
+          same = refl;
         }
     loads_at q (Inner node) reads few =
         let d = r.sound.denotes q (Inner node, reads) in
@@ -165,11 +169,12 @@ module _ {S : Type 0} (board : S → List (std.Option Cell)) (free_slots : S →
           seat = record { draws = refl; shares = refl; counts = refl; orders = refl };
           hands = refl;
           work = refl;
+          same = refl;
         }
 
   -- the clauses of load_node, and that the rest of the seat stays
   abbrev pub LoadedSlot : Own → ℕ → Sat → ℕ → Sat → Type 0
-  LoadedSlot o q m n m' = (m'.1 ≡ m.1) × (m'.0.hand ≡ m.0.hand) × (m'.0.work ≡ m.0.work) × IsSeatOf m.0 m'.0 × LoadedNode (known_of m.0 o) (known_of m'.0 o) q n
+  LoadedSlot o q m n m' = (m'.1 ≡ m.1) × (m'.0.hand ≡ m.0.hand) × (m'.0.work ≡ m.0.work) × (m'.0.stored ≡ m.0.stored) × IsSeatOf m.0 m'.0 × LoadedNode (known_of m.0 o) (known_of m'.0 o) q n
 
   -- The load of a node word under an operation share, whether in use or not.
   pub loads_met : (slots id : ℕ) (me : Sat) (o : Own) (q : ℕ) → me.0.draws.live ≡ true → me.0.shares.op ≡ shares.Held → q < me.0.draws.slots → o.fulls < 18446744073709551616
@@ -192,8 +197,8 @@ module _ {S : Type 0} (board : S → List (std.Option Cell)) (free_slots : S →
         keeps,
         tt,
         subst (λ (y : List ℕ). TheRule (record { words = y; homes = s.homes; views = set s.views id l.view })) (sym (set-get_or s.words word 0))
-            (record { shape = z; wide = r.wide; long = r.long; parts = l.parts }),
-        (refl, l.hands, l.work, l.seat, subst (λ (y : ℕ). LoadedNode (known_of v o) (known_of l.view o) q y) is l.loaded),
+            (record { shape = z; wide = r.wide; long = r.long; parts = l.parts; one = one_still z ws.order ws.node ws.count s.views id v l.view at l.same r.one }),
+        (refl, l.hands, l.work, ap (λ (x : Storer). x.stored) l.same, l.seat, subst (λ (y : ℕ). LoadedNode (known_of v o) (known_of l.view o) q y) is l.loaded),
       ))
       (λ free. (
         v,
@@ -201,6 +206,7 @@ module _ {S : Type 0} (board : S → List (std.Option Cell)) (free_slots : S →
         tt,
         stays board free_slots memo s word id me r at,
         (
+          refl,
           refl,
           refl,
           refl,

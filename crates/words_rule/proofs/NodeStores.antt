@@ -35,6 +35,7 @@ use Rattle.words_rule.specs.Dues.{slot_of, word_of, due_function, job_function, 
 use Rattle.words_rule.specs.Hands.{storing}
 use Rattle.words_rule.specs.Kept.{whole_of}
 use Rattle.words_rule.specs.Seen.{StandsSo}
+use Rattle.words_rule.specs.OneSession.{storing_node}
 use Rattle.words_rule.specs.Rule.{Parts, Rule}
 use Rattle.words_rule.specs.Loads.{IsSeatOf, TakenReads, StoredNode}
 use Rattle.words_rule.specs.Known.{with_made, Own, denoted_in, noted_bits, noted_function, word_in, met_in, noted_content, taken_of, known_of}
@@ -47,6 +48,7 @@ use Rattle.words_rule.proofs.Storing.{noting_slot, edge_at, parts_notes, notes_o
 use Rattle.words_rule.proofs.Tabling.{after_word, set_set}
 use Rattle.words_rule.proofs.Narrowing.{Narrow, is_up, node_values_same}
 use Rattle.words_rule.proofs.Meeting.{no_hold, word_stands, content_true, narrow, decoded}
+use Rattle.words_rule.proofs.OneSessions.{one_told, parts_told, told_node}
 use Rattle.words_rule.proofs.Working.{parts_work}
 use Rattle.words_rule.proofs.Standing.{stands_more}
 use Rattle.words_rule.proofs.HandClauses.{some_back}
@@ -231,7 +233,7 @@ module _ {S : Type 0} (board : S → List (std.Option Cell)) (free_slots : S →
 
   -- store_node
   abbrev pub StoredSlot : Own → ℕ → ℕ → Sat → ℕ → Sat → Type 0
-  StoredSlot o slot bits m n m' = (m'.1 ≡ m.1) × IsSeatOf m.0 m'.0 × (m'.0.work ≡ record m.0.work { made = slot ∷ m.0.work.made }) × StoredNode (known_of m.0 o) (known_of m'.0 (with_made o slot)) slot bits
+  StoredSlot o slot bits m n m' = (m'.1 ≡ m.1) × IsSeatOf m.0 m'.0 × (m'.0.work ≡ record m.0.work { made = slot ∷ m.0.work.made }) × (m'.0.stored ≡ storing_node slot bits m.0.stored) × StoredNode (known_of m.0 o) (known_of m'.0 (with_made o slot)) slot bits
 
   pub step_store_node : (slots id : ℕ) (me : Sat) (o : Own) (job : Job) (bits : ℕ) → me.0.draws.live ≡ true → me.0.shares.op ≡ shares.Held → me.0.hand.taken ≡ Some job → (known_of me.0 o).hand.loose ≡ None
       → bits < 18446744073709551616 → slot_of job < me.0.draws.slots → unpack_of bits ≡ Some (word_of job) → o.fulls < 18446744073709551616
@@ -246,7 +248,8 @@ module _ {S : Type 0} (board : S → List (std.Option Cell)) (free_slots : S →
       let below : slot_of job < z.slots = subst (λ (y : Shape). slot_of job < y.slots) (sym shape) inside in
       let on : orders_of v.known ≡ p.orders = p.ordered.shared id v at share in
       let u : View = v2 z ws home s.views p id v at live share on o job bits fits taken none_loose reads in
-      let w : View = record u { work = record v.work { made = slot_of job ∷ v.work.made } } in
+      let made : View = record u { work = record v.work { made = slot_of job ∷ v.work.made } } in
+      let w : View = record made { stored = storing_node (slot_of job) bits v.stored } in
       let ws1 : Words = record ws { node = put_at ws.node (slot_of job) bits } in
       let stored = stored_parts z ws home s.views p id v at live share on o job bits fits taken none_loose reads in (
         w,
@@ -254,8 +257,10 @@ module _ {S : Type 0} (board : S → List (std.Option Cell)) (free_slots : S →
         tt,
         subst (λ (i : ℕ). TheRule (record { words = set s.words i bits; homes = s.homes; views = set s.views id w })) (ap (λ (y : Shape). node_at y (slot_of job)) shape)
             (after_word board free_slots memo s r (node_at z (slot_of job)) bits (set s.views id w) s.homes ws1 refl (set_node z s.words bits (slot_of job) below r.wide)
-            (subst (λ (l : List View). PartsOf z ws1 home l) (set_set s.views id u w) (parts_work board free_slots memo z ws1 home (set s.views id u) stored id u (set_at s.views id v u at) w.work))),
-        (refl, record { draws = refl; shares = refl; counts = refl; orders = refl }, refl, stored_clauses z ws home s.views p id v at live share on o job bits fits taken none_loose reads few),
+            (parts_told board free_slots memo z ws1 home s.views id v made at
+            (subst (λ (l : List View). PartsOf z ws1 home l) (set_set s.views id u made) (parts_work board free_slots memo z ws1 home (set s.views id u) stored id u (set_at s.views id v u at) made.work)) w.stored)
+            (one_told board free_slots memo z ws home s.views p r.one id v w at live refl ws.order ws1.node ws.count (λ are. told_node z ws.order ws.node ws.count v.stored are (slot_of job) bits))),
+        (refl, record { draws = refl; shares = refl; counts = refl; orders = refl }, refl, refl, stored_clauses z ws home s.views p id v at live share on o job bits fits taken none_loose reads few),
       )
 
   -- store_node, by what the hand has taken as the step asks for it

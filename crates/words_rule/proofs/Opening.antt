@@ -105,6 +105,15 @@ module _ (n : ℕ) where
   pub word_high : (v : ℕ) → v < n → opening_word n (behind v) ≡ Some (Inner (projection_node v))
   word_high v lt = ap (λ b. cond b (Some (Inner (projection_node v))) None) (lt-ltb v n lt)
 
+  -- the slots of the constants and of the projections are in use
+  pub used_first : (s : ℕ) → s < 5 + n → opening_word n s ≡ None → ⊥
+  used_first zero lt e = cc
+  used_first (suc zero) lt e = cc
+  used_first (suc (suc zero)) lt e = cc
+  used_first (suc (suc (suc zero))) lt e = cc
+  used_first (suc (suc (suc (suc zero)))) lt e = cc
+  used_first (suc (suc (suc (suc (suc v))))) lt e = let c : Some (Inner (projection_node v)) ≡ None = sym (word_high v (omega (arith, lt))) ∙ e in cc
+
   some_word : (a b : Word) → Some a ≡ Some b → a ≡ b
   some_word a b e = cc
 

@@ -42,7 +42,8 @@ use Rattle.words_rule.specs.Openings.{opening_word, opening_function, opening_co
 use Rattle.words_rule.specs.Seen.{IsSeen}
 use Rattle.words_rule.specs.Rule.{Parts, Rule, Tied}
 use Rattle.words_rule.proofs.Phases.{phase_starts}
-use Rattle.words_rule.proofs.Opening.{at_high, opening_sound, word_high}
+use Rattle.words_rule.proofs.Opening.{at_high, opening_sound, used_first, word_high}
+use Rattle.words_rule.proofs.OneSessions.{one_opened}
 use Rattle.function_laws.specs.Kinds.{BddFunction}
 use Rattle.function_laws.specs.Values.{projection}
 use Rattle.free_list.specs.FreeSlots.{FreeSlots}
@@ -149,7 +150,7 @@ module _ {S : Type 0} (board : S → List (std.Option Cell)) (free_slots : S →
         };
         phase = subst (λ (x : ℕ). Phase x (footing_of v ∷ [])) (sym new.phase) (phase_starts (footing_of v) (omega arith) refl);
         counts = record {
-          counted = λ k. let a = new.count k in let b = none_counted k cells empty in omega (arith, a, b);
+          counted = λ k. let a : count_of (ws.count k) ≡ 0 = ap count_of (new.count k) in let b = none_counted k cells empty in omega (arith, a, b);
           most = omega arith;
           few_cells = refl;
           small = λ id t at. only (tally_of v) id t at (λ _ (t : Tally). (size t ≤ t.sessions * 2 ^ 25) × (t.sessions ≤ t.parts)) (omega arith, omega arith);
@@ -179,7 +180,7 @@ module _ {S : Type 0} (board : S → List (std.Option Cell)) (free_slots : S →
             free = λ k s e. let f = new.free.within k s e in (f.1, word_behind n s f.0, refl);
             once = new.free.once;
             all = λ s lt free none_now. elim (cases_lt s (5 + n)) [
-              | inl low ↦ absurd (used s low free)
+              | inl low ↦ absurd (used_first n s low free)
               | inr le ↦ new.free.all s le lt
             ];
           };
@@ -229,15 +230,7 @@ module _ {S : Type 0} (board : S → List (std.Option Cell)) (free_slots : S →
       no_due : (due : Job) → None ≡ Some due → ⊥
       no_due due e = cc
 
-      used : (s : ℕ) → s < 5 + key.vars → opening_word key.vars s ≡ None → ⊥
-      used zero lt e = cc
-      used (suc zero) lt e = cc
-      used (suc (suc zero)) lt e = cc
-      used (suc (suc (suc zero))) lt e = cc
-      used (suc (suc (suc (suc zero)))) lt e = cc
-      used (suc (suc (suc (suc (suc v))))) lt e = let c : Some (Inner (projection_node v)) ≡ None = sym (word_high key.vars v (omega (arith, lt))) ∙ e in cc
-
   -- the table as it is made
   pub starts : (key : Opening) (words : List ℕ) (homes : List (Option (std.Option S))) → length words ≡ word_count (shape_of key) → length homes ≡ 3
       → IsNewTable board free_slots memo (shape_of key) (words_of (shape_of key) words) (λ (k : ℕ). get_elem? homes k) → Rule board free_slots memo (record { words = words; homes = homes; views = first_view key ∷ [] })
-  starts key words homes wide long new = record { shape = shape_of key; wide = wide; long = long; parts = opens key (words_of (shape_of key) words) (λ (k : ℕ). get_elem? homes k) new }
+  starts key words homes wide long new = record { shape = shape_of key; wide = wide; long = long; parts = opens key (words_of (shape_of key) words) (λ (k : ℕ). get_elem? homes k) new; one = one_opened board free_slots memo key (words_of (shape_of key) words) (λ (k : ℕ). get_elem? homes k) new }

@@ -20,6 +20,7 @@ use Rattle.words_rule.specs.Hands.{without_level}
 use Rattle.words_rule.specs.HeldContents.{KnowsAll, held_content}
 use Rattle.words_rule.specs.HolderPlays.{HasExchanged, due_stored, orders_exchanged}
 use Rattle.words_rule.specs.Layout.{Shape, Words, content_of, entry_at, order_at, places, words_of}
+use Rattle.words_rule.specs.OneSession.{AreTold, storing_order}
 use Rattle.words_rule.specs.Rule.{Parts, Rule}
 use Rattle.words_rule.specs.Shapes.{shape_in}
 use Rattle.words_rule.specs.Views.{orders_of}
@@ -28,18 +29,22 @@ use Rattle.words_rule.proofs.Layouts.{set_order}
 use Rattle.words_rule.proofs.OrderWords.{next_position, position_below, position_entry, same_place}
 use Rattle.words_rule.proofs.Rewrites.{order_by_full, parts_exchange, parts_exchanged}
 use Rattle.words_rule.proofs.Stepping.{shape_is}
+use Rattle.words_rule.proofs.OneSessions.{one_told, parts_told, told_order}
 use Rattle.words_rule.proofs.Tabling.{after_word}
 use Rattle.free_list.specs.FreeSlots.{FreeSlots}
 
--- an order word is no longer due
-abbrev stored : View → ℕ → View
-stored v p = record v { known = record v.known { pending = without_level p v.known.pending } }
+-- an order word is stored, and no longer due
+abbrev stored : View → ℕ → ℕ → View
+stored v p entry = record v { known = record v.known { pending = without_level p v.known.pending }; stored = storing_order p entry v.stored }
 
 -- the orders are exchanged, and the other order words are due
 abbrev exchanging : View → Order → ℕ → View
 exchanging v which level =
     let orders : Orders = exchanged (orders_of v.known) which level in
-    record v { known = record v.known { variable_order = orders.variables; element_order = orders.elements; pending = dues_of (shape_in v.draws) (orders_of v.known) which level; half = None } }
+    record v {
+      known = record v.known { variable_order = orders.variables; element_order = orders.elements; pending = dues_of (shape_in v.draws) (orders_of v.known) which level; half = None };
+      stored = storing_order (position (shape_in v.draws) which level) (slice_index (in_order (orders_of v.known) which) (level + 1)) v.stored;
+    }
 
 module _ (v : View) (know : KnowsAll v) (which : Order) (level : ℕ) (can : CanExchange (held_content v) which level) where
   long_after : (o : Order) → (length (exchanged (orders_of v.known) o level).variables ≡ v.draws.vars) × (length (exchanged (orders_of v.known) o level).elements ≡ v.draws.elements)
@@ -55,6 +60,7 @@ module _ (v : View) (know : KnowsAll v) (which : Order) (level : ℕ) (can : Can
     hand = refl;
     told = refl;
     pending = refl;
+    stored = refl;
     content = refl;
     bits_are = refl;
     knows = record {
@@ -93,15 +99,17 @@ module _ {S : Type 0} (board : S → List (std.Option Cell)) (free_slots : S →
       let orders = (q.ordered.held id v at (order_by_full board free_slots memo z ws home s.views q id v at full)).0 in
       let below : p < places z + places z = subst (λ (y : Shape). p < places y + places y) (sym shape) inside in
       let value : entry_at z q.orders p ≡ bits = (λ i. entry_at (shape i) (sym orders i) p) ∙ sym right in
-      let u : View = stored v p in
+      let u : View = stored v p bits in
+      let ws1 : Words = record ws { order = put_at ws.order p bits } in
       let parts = parts_exchanged board free_slots memo z ws home s.views q id v at p u.known full none_taken orders refl refl refl refl refl (ap (without_level p) ((q.holders id v at).1 full).1) in (
         u,
         keeps,
         tt,
         subst (λ (i : ℕ). TheRule (record { words = set s.words i bits; homes = s.homes; views = set s.views id u })) (ap (λ (y : Shape). order_at y p) shape)
-            (after_word board free_slots memo s r (order_at z p) bits (set s.views id u) s.homes (record ws { order = put_at ws.order p bits }) refl (set_order z s.words bits p below r.wide)
-            (subst (λ (b : ℕ). PartsOf z (record ws { order = put_at ws.order p b }) home (set s.views id u)) value parts)),
-        (refl, refl, λ p' same. ap (λ (j : ℕ). (stored v j, me.1)) (let e : p ≡ p' = omega (arith, same) in e)),
+            (after_word board free_slots memo s r (order_at z p) bits (set s.views id u) s.homes ws1 refl (set_order z s.words bits p below r.wide)
+            (parts_told board free_slots memo z ws1 home s.views id v (record v { known = u.known }) at (subst (λ (b : ℕ). PartsOf z (record ws { order = put_at ws.order p b }) home (set s.views id (record v { known = u.known }))) value parts) u.stored)
+            (one_told board free_slots memo z ws home s.views q r.one id v u at live refl ws1.order ws.node ws.count (λ are. told_order z ws.order ws.node ws.count v.stored are p bits))),
+        (refl, refl, λ p' same. ap (λ (j : ℕ). (stored v j bits, me.1)) (let e : p ≡ p' = omega (arith, same) in e)),
       ))
 
   -- the first one of an exchange is
@@ -130,14 +138,17 @@ module _ {S : Type 0} (board : S → List (std.Option Cell)) (free_slots : S →
       let value : entry_at z q.orders (p + 1) ≡ bits = ap (entry_at z q.orders) (next_position z which level) ∙ position_entry z q.orders q.positions.variables_long q.positions.elements_long which (level + 1) within
       ∙ ap (λ (os : Orders). slice_index (in_order os which) (level + 1)) (sym orders) ∙ sym right in
       let u : View = exchanging v which level in
+      let ws1 : Words = record ws { order = put_at ws.order p bits } in
       let parts = parts_exchange board free_slots memo z ws home s.views q id v at which level can_now u.known full has_memo none_taken (sym holder.1 ∙ settled) (ap (λ (os : Orders). exchanged os which level) orders) refl refl refl refl
       (λ i. dues_of (sym shape i) (orders i) which level) refl in (
         u,
         keeps,
         tt,
         subst (λ (i : ℕ). TheRule (record { words = set s.words i bits; homes = s.homes; views = set s.views id u })) (ap (λ (y : Shape). order_at y (position y which level)) shape)
-            (after_word board free_slots memo s r (order_at z p) bits (set s.views id u) s.homes (record ws { order = put_at ws.order p bits }) refl (set_order z s.words bits p below r.wide)
-            (subst (λ (b : ℕ). PartsOf z (record ws { order = put_at ws.order p b }) home (set s.views id u)) value parts)),
+            (after_word board free_slots memo s r (order_at z p) bits (set s.views id u) s.homes ws1 refl (set_order z s.words bits p below r.wide)
+            (parts_told board free_slots memo z ws1 home s.views id v (record v { known = u.known }) at (subst (λ (b : ℕ). PartsOf z (record ws { order = put_at ws.order p b }) home (set s.views id (record v { known = u.known }))) value parts) u.stored)
+            (one_told board free_slots memo z ws home s.views q r.one id v u at live refl ws1.order ws.node ws.count
+            (λ are. subst (λ (y : ℕ × ℕ). AreTold z ws1.order ws.node ws.count (storing_order y.0 y.1 v.stored)) (λ i. (position (shape i) which level, right i)) (told_order z ws.order ws.node ws.count v.stored are p bits)))),
         (
           refl,
           refl,

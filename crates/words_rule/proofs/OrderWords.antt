@@ -27,6 +27,7 @@ use Rattle.words_rule.proofs.Phases.{one_order}
 use Rattle.words_rule.proofs.Rewrites.{order_by_full}
 use Rattle.words_rule.proofs.Stepping.{shape_is}
 use Rattle.words_rule.proofs.Tabling.{stays}
+use Rattle.words_rule.proofs.OneLoads.{finds_told}
 use Rattle.free_list.specs.FreeSlots.{FreeSlots}
 
 module _ (z : Shape) (os : Orders) (variables_long : length os.variables ≡ z.variables) (elements_long : length os.elements ≡ z.elements) where
@@ -104,5 +105,6 @@ module _ {S : Type 0} (board : S → List (std.Option Cell)) (free_slots : S →
               let inside : i < places z + places z = omega (arith, below) in
               ap (λ (j : ℕ). get_or s.words j 0) (same ∙ ap (λ (y : Shape). order_at y (position y which level)) (sym shape)) ∙ sym (here_order z s.words 0 i inside) ∙ p.positions.at i inside (λ due. subst (λ (l : List ℕ). Lists l i) none_left due)
               ∙ position_entry z p.orders p.positions.variables_long p.positions.elements_long which level lt ∙ ap (λ (os : Orders). slice_index (in_order os which) level) (sym same_orders)),
+          finds_told board free_slots memo s r id me.0 at live word,
         ),
       )

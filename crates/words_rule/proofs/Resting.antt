@@ -37,6 +37,7 @@ use Rattle.words_rule.specs.Endings.{IsSettled}
 use Rattle.words_rule.proofs.Lists.{each_set, set_at}
 use Rattle.words_rule.proofs.Handling.{never, hands_it}
 use Rattle.words_rule.proofs.Linking.{hand_links}
+use Rattle.words_rule.proofs.OneSessions.{one_joined}
 use Rattle.words_rule.proofs.Sessions.{parts_join}
 use Rattle.words_rule.proofs.Sifting.{steps_quiet}
 use Rattle.words_rule.proofs.Seeing.{seen_other}
@@ -194,6 +195,7 @@ module _ {S : Type 0} (board : S → List (std.Option Cell)) (free_slots : S →
         long = r.long;
         parts = subst (λ (l : List View). Parts board free_slots memo r.shape (words_of r.shape s.words) (λ (k : ℕ). get_elem? s.homes k) l) (twice s.views other id (bare w.draws) a (bare blank) (λ e. apart (sym e)))
             (parts_join board free_slots memo r.shape (words_of r.shape s.words) (λ (k : ℕ). get_elem? s.homes k) ds p id other v.draws w.draws at_id apart there_now closing live settled.board);
+        one = one_joined board free_slots memo r.shape (words_of r.shape s.words).order (words_of r.shape s.words).node (words_of r.shape s.words).count s.views r.one id other v.draws w.draws (at ∙ ap some is_v);
       }
     where
       -- what is written twice is as it was written last

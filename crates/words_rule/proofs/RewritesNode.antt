@@ -22,6 +22,7 @@ use Rattle.words_rule.specs.Layout.{Shape, Words, content_of, node_at, words_of}
 use Rattle.words_rule.specs.Hands.{HasLevel, level_of}
 use Rattle.words_rule.specs.HeldContents.{KnowsAll, held_content, with_word}
 use Rattle.words_rule.specs.HolderPlays.{HasRewritten, node_rewritten}
+use Rattle.words_rule.specs.OneSession.{storing_node}
 use Rattle.words_rule.specs.Rule.{Parts, Rule}
 use Rattle.words_rule.specs.Seen.{StandsSo}
 use Rattle.words_rule.proofs.HeldNotes.{beyond_with, bits_put, each_word_else, functions_stay, noted_with, words_put}
@@ -29,6 +30,8 @@ use Rattle.words_rule.proofs.HolderKnows.{can_rewrite, same_content}
 use Rattle.words_rule.proofs.Layouts.{set_node}
 use Rattle.words_rule.proofs.Rewrites.{order_by_full, parts_rewrite}
 use Rattle.words_rule.proofs.Stepping.{shape_is}
+use Rattle.words_rule.proofs.Handed.{moved}
+use Rattle.words_rule.proofs.OneSessions.{one_told, parts_told, told_node}
 use Rattle.words_rule.proofs.Tabling.{after_word}
 use Rattle.free_list.specs.FreeSlots.{FreeSlots}
 
@@ -36,7 +39,7 @@ use Rattle.free_list.specs.FreeSlots.{FreeSlots}
 abbrev rewriting : View → ℕ → ℕ → ℕ → View
 rewriting v q bits x =
     let pair : Pair = pair_of (held_content v) (var_of ((held_content v).word q)) x in
-    record v { known = record v.known { words = with_word q bits v.known.words; half = Some (record { upper = pair.upper; lower = pair.lower }) } }
+    record v { known = record v.known { words = with_word q bits v.known.words; half = Some (record { upper = pair.upper; lower = pair.lower }) }; stored = storing_node q bits v.stored }
 
 module _ (v : View) (know : KnowsAll v) (k : Kind) (q bits : ℕ) (node : Node) (small : bits < 18446744073709551616) (inside : q < v.draws.slots) (reads : unpack_of bits ≡ Some (Inner node)) (can : CanRewrite k (held_content v) q node.var (plain node.hi) node.lo) where
   abbrev u : View
@@ -64,6 +67,7 @@ module _ (v : View) (know : KnowsAll v) (k : Kind) (q bits : ℕ) (node : Node) 
   has_rewritten = record {
     still = record { draws = refl; shares = refl; counts = refl; work = refl; told = refl; pending = refl };
     hand = refl;
+    stored = refl;
     content = content_after;
     bits_are = bits_put q bits v.known.words;
     knows = knows_after;
@@ -78,7 +82,7 @@ module _ {S : Type 0} (board : S → List (std.Option Cell)) (free_slots : S →
 
   module _ (z : Shape) (ws : Words) (home : ℕ → Option (Option (std.Option S))) (vs : List View) (r : PartsOf z ws home vs) (id : ℕ) (v : View) (at : get_elem? vs id ≡ some v) where
     parts_rewritten : v.draws.live ≡ true → v.shares.full ≡ Holding → KnowsAll v → (k : Kind) (q bits : ℕ) (node : Node) → bits < 18446744073709551616 → v.hand.taken ≡ None → v.hand.loose ≡ Some q → unpack_of bits ≡ Some (Inner node)
-        → CanRewrite k (held_content v) q node.var (plain node.hi) node.lo → HasLevel v.hand (level_of (shape_in v.draws) (Inner node)) → PartsOf z (record ws { node = put_at ws.node q bits }) home (set vs id (rewriting v q bits node.var))
+        → CanRewrite k (held_content v) q node.var (plain node.hi) node.lo → HasLevel v.hand (level_of (shape_in v.draws) (Inner node)) → PartsOf z (record ws { node = put_at ws.node q bits }) home (set vs id (moved v v.hand (rewriting v q bits node.var).known))
     parts_rewritten live full know k q bits node small none_taken loose reads can level =
         let holding = order_by_full board free_slots memo z ws home vs r id v at full in
         let w : Content = content_of z ws.node r.orders r.function r.half in
@@ -109,13 +113,15 @@ module _ {S : Type 0} (board : S → List (std.Option Cell)) (free_slots : S →
       let shape = shape_is board free_slots memo z ws home s.views p id v at live in
       let below : q < z.slots = subst (λ (y : Shape). q < y.slots) (sym shape) inside in
       let node : Node = may.1 in
+      let ws1 : Words = record ws { node = put_at ws.node q bits } in
       let u : View = rewriting v q bits node.var in (
         u,
         keeps,
         tt,
         subst (λ (i : ℕ). TheRule (record { words = set s.words i bits; homes = s.homes; views = set s.views id u })) (ap (λ (y : Shape). node_at y q) shape)
-            (after_word board free_slots memo s r (node_at z q) bits (set s.views id u) s.homes (record ws { node = put_at ws.node q bits }) refl (set_node z s.words bits q below r.wide)
-            (parts_rewritten z ws home s.views p id v at live full know may.0 q bits node small none_taken loose may.2 may.3 may.4)),
+            (after_word board free_slots memo s r (node_at z q) bits (set s.views id u) s.homes ws1 refl (set_node z s.words bits q below r.wide)
+            (parts_told board free_slots memo z ws1 home s.views id v (moved v u.hand u.known) at (parts_rewritten z ws home s.views p id v at live full know may.0 q bits node small none_taken loose may.2 may.3 may.4) u.stored)
+            (one_told board free_slots memo z ws home s.views p r.one id v u at live refl ws.order ws1.node ws.count (λ are. told_node z ws.order ws.node ws.count v.stored are q bits))),
         (
           refl,
           refl,

@@ -45,6 +45,7 @@ use Rattle.words_rule.specs.Seen.{IsSeen}
 use Rattle.words_rule.specs.Rule.{Parts, Rule, Tied, FullHolder, HalfHolder, draws_in, footings_in, tallies_in, hands_in, bare}
 use Rattle.words_rule.proofs.Handling.{never as no_some}
 use Rattle.words_rule.proofs.Lists.{at_end, each_set, each_map, each_append}
+use Rattle.words_rule.proofs.OneSessions.{one_split}
 use Rattle.words_rule.proofs.Journals.{splits_it, joins_it}
 use Rattle.words_rule.proofs.Tallying.{total-set}
 use Rattle.words_rule.proofs.Sifting.{quiet}
@@ -263,12 +264,14 @@ module _ {S : Type 0} (board : S → List (std.Option Cell)) (free_slots : S →
       stays dead own most f p = record { place = p.place; within = p.within; later = p.later; is = quiet (sizes_for z.variables z.elements) r.log vs (set vs id (bare (one_more d)) ++ bare (session_of d) ∷ []) p.place f (raised dead (drop p.place r.log) f) p.is }
 
   -- as the table asks for it
-  pub splits : (id : ℕ) (v : View) → v ≡ bare v.draws → v.draws.closing ≡ true → v.draws.given < 64 → Splits (Rule board free_slots memo) id v (bare (one_more v.draws)) (bare (session_of v.draws))
-  splits id v is closing room s r at = record {
+  pub splits : (id : ℕ) (v : View) → v ≡ bare v.draws → v.draws.closing ≡ true → v.draws.given < v.draws.sessions → v.draws.sessions ≤ 64 → Splits (Rule board free_slots memo) id v (bare (one_more v.draws)) (bare (session_of v.draws))
+  splits id v is closing room few s r at = record {
     shape = r.shape;
     wide = r.wide;
     long = r.long;
-    parts = parts_split r.shape (words_of r.shape s.words) (λ (k : ℕ). get_elem? s.homes k) s.views r.parts id v.draws (at ∙ ap some is) closing room;
+    parts = parts_split r.shape (words_of r.shape s.words) (λ (k : ℕ). get_elem? s.homes k) s.views r.parts id v.draws (at ∙ ap some is) closing (omega (arith, room, few));
+    one = one_split board free_slots memo r.shape (words_of r.shape s.words).order (words_of r.shape s.words).node (words_of r.shape s.words).count s.views r.one id v.draws (at ∙ ap some is)
+        ((r.parts.journal.each id v.draws (at_map (λ (u : View). u.draws) s.views id v at)).closing closing).0 closing room;
   }
 
 -- two seats become one, and the other is spent
@@ -446,13 +449,3 @@ module _ {S : Type 0} (board : S → List (std.Option Cell)) (free_slots : S →
 
       stays : d.live ≡ false → get_elem? vs other ≡ some (bare e) → (own : List Entry) (most : ℕ) (f : Function) → IsPlaced (sizes_for z.variables z.elements) r.log vs own most f → IsPlaced (sizes_for z.variables z.elements) r.log (set (set vs id (bare (with_gone d e))) other (bare blank)) own most f
       stays dead at_other own most f p = record { place = p.place; within = p.within; later = p.later; is = quiet (sizes_for z.variables z.elements) r.log vs (set (set vs id (bare (with_gone d e))) other (bare blank)) p.place f (raised dead at_other (drop p.place r.log) f) p.is }
-
-  -- as the table asks for it
-  pub joins : (id : ℕ) (v : View) (other : ℕ) (w : View) → v ≡ bare v.draws → w ≡ bare w.draws → v.draws.closing ≡ true → w.draws.live ≡ true → w.draws.holds ≡ false
-      → Joins (Rule board free_slots memo) id v other w (bare (with_gone v.draws w.draws)) (bare blank)
-  joins id v other w is_v is_w closing live free s r at apart there = record {
-    shape = r.shape;
-    wide = r.wide;
-    long = r.long;
-    parts = parts_join r.shape (words_of r.shape s.words) (λ (k : ℕ). get_elem? s.homes k) s.views r.parts id other v.draws w.draws (at ∙ ap some is_v) apart (there ∙ ap some is_w) closing live free;
-  }

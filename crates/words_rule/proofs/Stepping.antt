@@ -40,7 +40,8 @@ use Rattle.words_rule.specs.Hands.{Tables, Linked, IsIdle}
 use Rattle.words_rule.specs.Sifted.{IsPlaced, OwesLast, Sifts}
 use Rattle.words_rule.specs.Seen.{HasShare, KeepsSlots, StandsSo}
 use Rattle.words_rule.specs.Halves.{half_in}
-use Rattle.words_rule.specs.Rule.{Parts, Rule, Tied, FullHolder, HalfHolder, draws_in, footings_in, tallies_in}
+use Rattle.words_rule.specs.OneSession.{OneSession, storer_of}
+use Rattle.words_rule.specs.Rule.{Parts, Rule, Tied, FullHolder, HalfHolder, draws_in, footings_in, tallies_in, storers_in}
 use Rattle.words_rule.specs.Plays.{shared}
 use Rattle.words_rule.proofs.Seeing.{seen_other}
 use Rattle.words_rule.proofs.Lists.{each_set, set_at, map_at, each_map}
@@ -50,7 +51,7 @@ use Rattle.words_rule.proofs.Phases.{excludes, op_held, op_owed, op_out, walk_he
 use Rattle.words_rule.proofs.Tallying.{raises, by_row, by_cell, pays, counts_small}
 use Rattle.words_rule.proofs.Sifting.{steps_same, steps_quiet, stays_placed}
 use Rattle.words_rule.proofs.Layouts.{set_phase, set_count, here_count}
-use Rattle.words_rule.proofs.Draws.{frame, by_full, by_pending}
+use Rattle.words_rule.proofs.Draws.{frame, by_full, by_pending, one_still}
 use Rattle.words_rule.proofs.Handed.{ordered_same}
 use Rattle.node_store.specs.Contents.{Pair, view_of}
 use Rattle.words_rule.specs.Remembered.{Remembered}
@@ -401,8 +402,14 @@ module _ {S : Type 0} (board : S → List (std.Option Cell)) (free_slots : S →
       let here = at_map footing_of s.views id v at in
       let words : words_of z (set s.words 1 ((n + 1) % 2 ^ 64)) ≡ record (words_of z s.words) { phase = suc n } =
       set_phase z s.words ((n + 1) % 2 ^ 64) (let l = r.wide in omega (arith, l)) ∙ ap (λ (k : ℕ). record (words_of z s.words) { phase = k }) next in
-      let end : (u : View) → PartsOf z (record (words_of z s.words) { phase = suc n }) home (set s.views id u) → TheRule (record { words = set s.words 1 ((n + 1) % 2 ^ 64); homes = s.homes; views = set s.views id u }) =
-      λ u parts. record { shape = z; wide = length-set s.words 1 ((n + 1) % 2 ^ 64) ∙ r.wide; long = r.long; parts = subst (λ (y : Words). PartsOf z y home (set s.views id u)) (sym words) parts } in
+      let end : (u : View) → storer_of u ≡ storer_of v → PartsOf z (record (words_of z s.words) { phase = suc n }) home (set s.views id u) → TheRule (record { words = set s.words 1 ((n + 1) % 2 ^ 64); homes = s.homes; views = set s.views id u }) =
+      λ u same parts. record {
+        shape = z;
+        wide = length-set s.words 1 ((n + 1) % 2 ^ 64) ∙ r.wide;
+        long = r.long;
+        parts = subst (λ (y : Words). PartsOf z y home (set s.views id u)) (sym words) parts;
+        one = subst (λ (y : Words). OneSession z y.order y.node y.count (storers_in (set s.views id u))) (sym words) (one_still z (words_of z s.words).order (words_of z s.words).node (words_of z s.words).count s.views id v u at same r.one);
+      } in
       let v1 : View = with_orders p.orders v in
       let p1 = parts_orders z (words_of z s.words) home s.views p id v at in
       let at1 = set_at s.views id v v1 at in
@@ -414,7 +421,7 @@ module _ {S : Type 0} (board : S → List (std.Option Cell)) (free_slots : S →
         v2,
         keeps,
         tt,
-        end v2 (subst (λ (l : List View). PartsOf z (record (words_of z s.words) { phase = suc n }) home l) (set_twice s.views id v1 v2)
+        end v2 refl (subst (λ (l : List View). PartsOf z (record (words_of z s.words) { phase = suc n }) home l) (set_twice s.views id v1 v2)
             (parts_shares z (words_of z s.words) home (set s.views id v1) p1 id v1 at1 (with_op v.shares shares.Held n) (suc n) (op_held n (footings_in (set s.views id v1)) ph1 id (footing_of v1) here1 has_part free low) ((λ h. h), λ h. h) (λ f. inl f) (λ _. inl refl)
             (λ _. inr (unnoted, unseen, sym (orders_kept z (words_of z s.words) home s.views p id v at))) (λ was. inl was) (λ f. inl f))),
         ((λ _. (p.orders.variables, p.orders.elements, refl)), (λ high. absurd (omega (arith, low, high)))),
@@ -423,7 +430,7 @@ module _ {S : Type 0} (board : S → List (std.Option Cell)) (free_slots : S →
         record v { shares = with_op v.shares shares.Owed n },
         keeps,
         tt,
-        end (record v { shares = with_op v.shares shares.Owed n }) (parts_shares z (words_of z s.words) home s.views p id v at (with_op v.shares shares.Owed n) (suc n) (op_owed n (footings_in s.views) ph id (footing_of v) here has_part free) ((λ h. h), λ h. h) (λ f. inl f)
+        end (record v { shares = with_op v.shares shares.Owed n }) refl (parts_shares z (words_of z s.words) home s.views p id v at (with_op v.shares shares.Owed n) (suc n) (op_owed n (footings_in s.views) ph id (footing_of v) here has_part free) ((λ h. h), λ h. h) (λ f. inl f)
             (λ some_taken. inr (⊎_elim (λ held. absurd (never (sym free ∙ held))) (λ holding. holding) ((p.tied id v at).taken some_taken))) (λ held_now. absurd (owed_not held_now)) (λ was. inl was) (λ f. inl f)),
         ((λ low. absurd (no_low low)), (λ _. refl)),
       ))
@@ -436,47 +443,3 @@ module _ {S : Type 0} (board : S → List (std.Option Cell)) (free_slots : S →
 
       owed_not : shares.Owed ≡ shares.Held → ⊥
       owed_not e = cc
-
-  abbrev pub counted_up : Held → Step (std.Option S) → Me (std.Option S) View → ℕ → Me (std.Option S) View → Type 0
-  counted_up held st m n m' = m' ≡ (record m.0 { counts = lifted held (generation_of n) m.0.counts }, m.1)
-
-  -- a slot that denotes the function is counted up
-  pub counts_up : (slots id : ℕ) (me : Me (std.Option S) View) (held : Held) → me.0.draws.live ≡ true → me.0.shares.op ≡ shares.Held → size (tally_of me.0) < 2 ^ 25 → held.edge.index < me.0.draws.slots
-      → ((s : State (std.Option S) View) (r : TheRule s) → get_elem? s.views id ≡ some me.0 → IsHeldBy r.shape r.parts.function held)
-      → Allows TheRule slots id me (count_at (shape_in me.0.draws) held.edge.index) (λ n. (n + 1) % 2 ^ 64) (counted_up held (step slots (count_at (shape_in me.0.draws) held.edge.index) 1 0 none) me)
-  counts_up slots id me held live share room inside denotes s r long at small =
-      let v = me.0 in
-      let z = r.shape in
-      let p = r.parts in
-      let k : ℕ = held.edge.index in
-      let home = λ (k : ℕ). get_elem? s.homes k in
-      let shape = shape_is z (words_of z s.words) home s.views p id v at live in
-      let word : ℕ = count_at (shape_in v.draws) k in
-      let word_is : count_at z k ≡ word = ap (λ (y : Shape). count_at y k) shape in
-      let below : k < z.slots = subst (λ (y : Shape). k < y.slots) (sym shape) inside in
-      let n : ℕ = get_or s.words word 0 in
-      let is_count : (words_of z s.words).count k ≡ n = here_count z s.words 0 k below ∙ ap (λ i. get_or s.words i 0) word_is in
-      let few = counts_small (words_of z s.words).count p.cells (tallies_in s.views) p.counts k in
-      let w : View = record v { counts = lifted held (generation_of n) v.counts } in
-      let new : ℕ = (n + 1) % 2 ^ 64 in
-      let words : words_of z (set s.words word new) ≡ record (words_of z s.words) { count = put_at (words_of z s.words).count k new } =
-      ap (λ i. words_of z (set s.words i new)) (sym word_is) ∙ set_count z s.words new k below r.wide in
-      let up : count_of new ≡ suc (count_of ((words_of z s.words).count k)) = next n small (subst (λ (x : ℕ). count_of x ≤ 2 ^ 31 + 320) is_count few) ∙ ap (λ (x : ℕ). suc (count_of x)) (sym is_count) in
-      let gen : generation_of (put_at (words_of z s.words).count k new k) ≡ generation_of n = ap generation_of (put_at-same (words_of z s.words).count k new) ∙ same_generation n small (subst (λ (x : ℕ). count_of x ≤ 2 ^ 31 + 320) is_count few) in
-      let parts = parts_raise z (words_of z s.words) home s.views p id v at held (put_at (words_of z s.words).count k new) live share room (denotes s r at)
-      (ap count_of (put_at-same (words_of z s.words).count k new) ∙ up) (λ j apart. put_at-other (words_of z s.words).count k j new apart)
-      (λ j. dite (ℕ_discrete j k) (λ is_k. ap (λ (x : ℕ). generation_of (put_at (words_of z s.words).count k new x)) is_k ∙ ap generation_of (put_at-same (words_of z s.words).count k new) ∙ same_generation n small (subst (λ (x : ℕ). count_of x ≤ 2 ^ 31 + 320) is_count few) ∙ ap generation_of (sym is_count) ∙ ap (λ (x : ℕ). generation_of ((words_of z s.words).count x)) (sym is_k))
-      (λ apart. ap generation_of (put_at-other (words_of z s.words).count k j new apart))) in
-      let told = subst (λ (g : ℕ). PartsOf z (record (words_of z s.words) { count = put_at (words_of z s.words).count k new }) home (set s.views id (record v { counts = lifted held g v.counts }))) gen parts in (
-        w,
-        keeps,
-        tt,
-        record { shape = z; wide = length-set s.words word new ∙ r.wide; long = r.long; parts = subst (λ (y : Words). PartsOf z y home (set s.views id w)) (sym words) told },
-        refl,
-      )
-    where
-      next : (n : ℕ) → n < 18446744073709551616 → count_of n ≤ 2 ^ 31 + 320 → count_of ((n + 1) % 2 ^ 64) ≡ suc (count_of n)
-      next n lt few = omega (arith, lt, few)
-
-      same_generation : (n : ℕ) → n < 18446744073709551616 → count_of n ≤ 2 ^ 31 + 320 → generation_of ((n + 1) % 2 ^ 64) ≡ generation_of n
-      same_generation n lt few = omega (arith, lt, few)

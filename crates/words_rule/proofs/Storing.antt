@@ -86,46 +86,6 @@ module _ {S : Type 0} (board : S → List (std.Option Cell)) (free_slots : S →
     unfolding parts_notes parts_known
     notes_function note held stands is_held = refl
 
-  module _ (z : Shape) (ws : Words) (home : ℕ → Option (Option (std.Option S))) (vs : List View) (r : PartsOf z ws home vs) (id : ℕ) (v : View) (at : get_elem? vs id ≡ some v) where
-    -- what is due is stored, and noted
-    pub parts_stored : (job : Job) (bits : ℕ) → bits < 18446744073709551616 → v.hand.taken ≡ Some job → v.hand.loose ≡ None → Each (λ (note : SeenWord). note.slot ≢ slot_of job) v.known.words → unpack_of bits ≡ Some (word_of job)
-        → (f : Function) → whole_of z (job_function (content_of z ws.node r.orders r.function r.half) job) ≡ f
-        → PartsOf z (record ws { node = put_at ws.node (slot_of job) bits }) home (set vs id (noting_slot (handed v (storing job v.hand)) (record { slot = slot_of job; bits = bits }) (edge_at (slot_of job) f)))
-    parts_stored job bits small is none_loose unnoted reads f told =
-        let w1 : View = handed v (storing job v.hand) in
-        let note : SeenWord = record { slot = slot_of job; bits = bits } in
-        let ws1 : Words = record ws { node = put_at ws.node (slot_of job) bits } in
-        let r1 : PartsOf z ws1 home (set vs id w1) = parts_store board free_slots memo z ws home vs r id v at job bits small is none_loose unnoted reads in
-        subst (λ (l : List View). PartsOf z ws1 home l) (set_set vs id w1 (noting_slot w1 note (edge_at (slot_of job) f)))
-        (parts_notes z ws1 home (set vs id w1) r1 id w1 (set_at vs id v w1 at) note (edge_at (slot_of job) f) (put_at-same ws.node (slot_of job) bits, λ free. absurd (no_some (word_of job) (sym free ∙ reads)))
-        (job_function (content_of z ws.node r.orders r.function r.half) job, ap (λ (g : ℕ → std.Option Denoted). g (slot_of job)) (stored_function board free_slots memo z ws home vs r id v at job bits small is none_loose unnoted reads) ∙ function_here (content_of z ws.node r.orders r.function r.half) job, told))
-
-  abbrev pub stored_so : Job → ℕ → Function → Step (std.Option S) → Sat → ℕ → Sat → Type 0
-  stored_so job bits f st m n m' = m' ≡ (noting_slot (handed m.0 (storing job m.0.hand)) (record { slot = slot_of job; bits = bits }) (edge_at (slot_of job) f), m.1)
-
-  -- The store of a new node or leaf: its word is noted, and what it denotes.
-  pub stores_job : (slots id : ℕ) (me : Sat) (job : Job) (bits : ℕ) (f : Function) → bits < 18446744073709551616 → me.0.draws.live ≡ true → me.0.hand.taken ≡ Some job → me.0.hand.loose ≡ None → slot_of job < me.0.draws.slots
-      → Each (λ (note : SeenWord). note.slot ≢ slot_of job) me.0.known.words → unpack_of bits ≡ Some (word_of job)
-      → ((s : State (std.Option S) View) (r : TheRule s) → get_elem? s.views id ≡ some me.0 → whole_of r.shape (job_function (content_of r.shape (words_of r.shape s.words).node r.parts.orders r.parts.function r.parts.half) job) ≡ f)
-      → Allows TheRule slots id me (node_at (shape_in me.0.draws) (slot_of job)) (λ _. bits) (stored_so job bits f (step slots (node_at (shape_in me.0.draws) (slot_of job)) bits 0 none) me)
-  stores_job slots id me job bits f fits live taken none_loose inside unnoted reads told s r long at small =
-      let v = me.0 in
-      let z = r.shape in
-      let p = r.parts in
-      let home = λ (k : ℕ). get_elem? s.homes k in
-      let ws = words_of z s.words in
-      let shape = shape_is board free_slots memo z ws home s.views p id v at live in
-      let below : slot_of job < z.slots = subst (λ (y : Shape). slot_of job < y.slots) (sym shape) inside in
-      let w : View = noting_slot (handed v (storing job v.hand)) (record { slot = slot_of job; bits = bits }) (edge_at (slot_of job) f) in (
-        w,
-        keeps,
-        tt,
-        subst (λ (i : ℕ). TheRule (record { words = set s.words i bits; homes = s.homes; views = set s.views id w })) (ap (λ (y : Shape). node_at y (slot_of job)) shape)
-            (after_word board free_slots memo s r (node_at z (slot_of job)) bits (set s.views id w) s.homes (record ws { node = put_at ws.node (slot_of job) bits }) refl (set_node z s.words bits (slot_of job) below r.wide)
-            (parts_stored z ws home s.views p id v at job bits fits taken none_loose unnoted reads f (told s r at))),
-        refl,
-      )
-
   -- The step of a head, where the seat has noted the word of its slot under its share or hold.
   pub pushes_noted : (slots id : ℕ) (me : Sat) (q link bits k : ℕ) → me.0.draws.live ≡ true → me.0.hand.loose ≡ Some q → me.0.hand.link ≡ Some (record { slot = q; link = link }) → HasShare me.0 → get_elem? me.0.known.words k ≡ some (record { slot = q; bits = bits })
       → Allows TheRule slots id me (head_at (shape_in me.0.draws) (head_of (shape_in me.0.draws) bits)) (λ n. either (n == link) (suc q) n)

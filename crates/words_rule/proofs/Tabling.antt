@@ -27,7 +27,9 @@ use Rattle.words_rule.specs.Shapes.{shape_in}
 use Rattle.words_rule.specs.Layout.{Shape, Words, levels, heads, head_of, words_of, turn_at, node_at, next_at, head_at, content_of}
 use Rattle.words_rule.specs.Dues.{slot_of, word_of, IsToDo}
 use Rattle.words_rule.specs.Hands.{level_of, HasLevel, Owns, Tables, taking, with_level, without_level, storing, linking, pushing}
-use Rattle.words_rule.specs.Rule.{Parts, Rule, hands_in}
+use Rattle.words_rule.specs.OneSession.{OneSession, storer_of}
+use Rattle.words_rule.specs.Rule.{Parts, Rule, hands_in, storers_in}
+use Rattle.words_rule.proofs.Draws.{one_still}
 use Rattle.words_rule.proofs.Layouts.{set_free_turn, set_turn, set_node, set_next, set_head, here_turn, here_next, here_head}
 use Rattle.words_rule.proofs.Handling.{never as no_some, hands_it, takes_level, puts_level, takes_free, puts_free, puts_back}
 use Rattle.words_rule.proofs.Linking.{hand_links, head_within, next_is}
@@ -36,10 +38,6 @@ use Rattle.words_rule.proofs.Lists.{set_at}
 use Rattle.words_rule.proofs.Handed.{handed, parts_hand, remembered_here, seen_here, hand_at, parts_store, parts_link, parts_push, parts_walk}
 use Rattle.words_rule.proofs.Stepping.{shape_is}
 use Rattle.free_list.specs.FreeSlots.{FreeSlots}
-
-abbrev pub is_holding : Hold → Bool
-is_holding Holding = true
-is_holding _ = false
 
 pub set_set : {A : Type 0} (l : List A) (i : ℕ) (a b : A) → set (set l i a) i b ≡ set l i b
 set_set [] i a b = refl
@@ -62,13 +60,19 @@ module _ {S : Type 0} (board : S → List (std.Option Cell)) (free_slots : S →
 
   -- the rule after a step that sets a word
   pub after_word : (s : State (std.Option S) View) (r : TheRule s) (i n : ℕ) (views : List View) (homes : List (Option (std.Option S))) (ws : Words) → length homes ≡ length s.homes
-      → words_of r.shape (set s.words i n) ≡ ws → PartsOf r.shape ws (λ k. get_elem? homes k) views → TheRule (record { words = set s.words i n; homes = homes; views = views })
-  after_word s r i n views homes ws len words parts = record {
+      → words_of r.shape (set s.words i n) ≡ ws → PartsOf r.shape ws (λ k. get_elem? homes k) views → OneSession r.shape ws.order ws.node ws.count (storers_in views) → TheRule (record { words = set s.words i n; homes = homes; views = views })
+  after_word s r i n views homes ws len words parts one = record {
     shape = r.shape;
     wide = length-set s.words i n ∙ r.wide;
     long = len ∙ r.long;
     parts = subst (λ (y : Words). PartsOf r.shape y (λ k. get_elem? homes k) views) (sym words) parts;
+    one = subst (λ (y : Words). OneSession r.shape y.order y.node y.count (storers_in views)) (sym words) one;
   }
+
+  -- the part of a table of one session after a step that stores no node, order or count word
+  pub told_still : (s : State (std.Option S) View) (r : TheRule s) (id : ℕ) (v w : View) → get_elem? s.views id ≡ some v → storer_of w ≡ storer_of v
+      → OneSession r.shape (words_of r.shape s.words).order (words_of r.shape s.words).node (words_of r.shape s.words).count (storers_in (set s.views id w))
+  told_still s r id v w at same = one_still r.shape (words_of r.shape s.words).order (words_of r.shape s.words).node (words_of r.shape s.words).count s.views id v w at same r.one
 
   abbrev pub took_turn : ℕ → Step (std.Option S) → Sat → ℕ → Sat → Type 0
   took_turn l st m n m' = (n ≡ 0 → m' ≡ (handed m.0 (with_level l m.0.hand), m.1)) × (n ≢ 0 → m' ≡ m)
@@ -101,7 +105,7 @@ module _ {S : Type 0} (board : S → List (std.Option Cell)) (free_slots : S →
         keeps,
         tt,
         subst (λ b. TheRule (stepped s (turn_at l) (either b new n) id me.1 (handed v h) keeps)) (sym (eq-eqb n 0 hit))
-            (after_word s r (turn_at l) new (set s.views id (handed v h)) s.homes (record ws { turn = put_at ws.turn l new }) refl (set_turn z s.words new l below r.wide) parts),
+            (after_word s r (turn_at l) new (set s.views id (handed v h)) s.homes (record ws { turn = put_at ws.turn l new }) refl (set_turn z s.words new l below r.wide) parts (told_still s r id v (handed v h) at refl)),
         ((λ _. refl), (λ miss. absurd (miss hit))),
       ))
       (λ miss. (
@@ -144,7 +148,7 @@ module _ {S : Type 0} (board : S → List (std.Option Cell)) (free_slots : S →
         handed v h,
         keeps,
         tt,
-        after_word s r (turn_at l) 0 (set s.views id (handed v h)) s.homes (record ws { turn = put_at ws.turn l 0 }) refl (set_turn z s.words 0 l below r.wide) parts,
+        after_word s r (turn_at l) 0 (set s.views id (handed v h)) s.homes (record ws { turn = put_at ws.turn l 0 }) refl (set_turn z s.words 0 l below r.wide) parts (told_still s r id v (handed v h) at refl),
         refl,
       )
 
@@ -181,7 +185,7 @@ module _ {S : Type 0} (board : S → List (std.Option Cell)) (free_slots : S →
         takes 1 (Some x),
         y.2,
         subst (λ b. TheRule (stepped s 3 (either b new n) id me.1 (handed v h) (takes 1 (Some x)))) (sym (eq-eqb n 0 hit))
-            (after_word s r 3 new (set s.views id (handed v h)) hs (record ws { free_turn = new }) (length-set s.homes 1 none) (set_free_turn z s.words new (let l = r.wide in omega (arith, l))) parts),
+            (after_word s r 3 new (set s.views id (handed v h)) hs (record ws { free_turn = new }) (length-set s.homes 1 none) (set_free_turn z s.words new (let l = r.wide in omega (arith, l))) parts (told_still s r id v (handed v h) at refl)),
         ((λ _. (x, refl, y.4 ∙ ap (λ (q : Shape). q.slots) (shape_is board free_slots memo z ws home s.views p id v at live))), (λ miss. absurd (miss hit))),
       ))
       (λ miss. (
@@ -223,7 +227,7 @@ module _ {S : Type 0} (board : S → List (std.Option Cell)) (free_slots : S →
         gives,
         tt,
         subst (λ (c : List (ℕ × std.Option S)). TheRule (stepped s 3 0 id c (handed v h) gives)) (sym has)
-            (after_word s r 3 0 (set s.views id (handed v h)) hs (record ws { free_turn = 0 }) (length-set s.homes 1 (some (Some x))) (set_free_turn z s.words 0 (let l = r.wide in omega (arith, l))) parts),
+            (after_word s r 3 0 (set s.views id (handed v h)) hs (record ws { free_turn = 0 }) (length-set s.homes 1 (some (Some x))) (set_free_turn z s.words 0 (let l = r.wide in omega (arith, l))) parts (told_still s r id v (handed v h) at refl)),
         refl,
       )
 
@@ -255,31 +259,7 @@ module _ {S : Type 0} (board : S → List (std.Option Cell)) (free_slots : S →
         gives,
         tt,
         subst (λ (c : List (ℕ × std.Option S)). TheRule (stepped s 3 0 id c (handed v h) gives)) (sym has)
-            (after_word s r 3 0 (set s.views id (handed v h)) hs (record ws { free_turn = 0 }) (length-set s.homes 1 (some (Some x))) (set_free_turn z s.words 0 (let l = r.wide in omega (arith, l))) parts),
-        refl,
-      )
-
-  abbrev pub stored_it : Job → Step (std.Option S) → Sat → ℕ → Sat → Type 0
-  stored_it due st m n m' = m' ≡ (handed m.0 (storing due m.0.hand), m.1)
-
-  -- the store of a new node
-  pub stores_node : (slots id : ℕ) (me : Sat) (due : Job) (bits : ℕ) → bits < 18446744073709551616 → me.0.draws.live ≡ true → me.0.hand.taken ≡ Some due → me.0.hand.loose ≡ None → (slot_of due) < me.0.draws.slots → Each (λ (note : SeenWord). note.slot ≢ (slot_of due)) me.0.known.words → unpack_of bits ≡ Some (word_of due)
-      → Allows TheRule slots id me (node_at (shape_in me.0.draws) (slot_of due)) (λ _. bits) (stored_it due (step slots (node_at (shape_in me.0.draws) (slot_of due)) bits 0 none) me)
-  stores_node slots id me due bits fits live taken none_loose inside unnoted reads s r long at small =
-      let v = me.0 in
-      let z = r.shape in
-      let p = r.parts in
-      let home = λ (k : ℕ). get_elem? s.homes k in
-      let ws = words_of z s.words in
-      let shape = shape_is board free_slots memo z ws home s.views p id v at live in
-      let below : (slot_of due) < z.slots = subst (λ (y : Shape). (slot_of due) < y.slots) (sym shape) inside in
-      let w : View = handed v (storing due v.hand) in (
-        w,
-        keeps,
-        tt,
-        subst (λ (i : ℕ). TheRule (record { words = set s.words i bits; homes = s.homes; views = set s.views id w })) (ap (λ (y : Shape). node_at y (slot_of due)) shape)
-            (after_word s r (node_at z (slot_of due)) bits (set s.views id w) s.homes (record ws { node = put_at ws.node (slot_of due) bits }) refl (set_node z s.words bits (slot_of due) below r.wide)
-            (parts_store board free_slots memo z ws home s.views p id v at due bits fits taken none_loose unnoted reads)),
+            (after_word s r 3 0 (set s.views id (handed v h)) hs (record ws { free_turn = 0 }) (length-set s.homes 1 (some (Some x))) (set_free_turn z s.words 0 (let l = r.wide in omega (arith, l))) parts (told_still s r id v (handed v h) at refl)),
         refl,
       )
 
@@ -302,7 +282,7 @@ module _ {S : Type 0} (board : S → List (std.Option Cell)) (free_slots : S →
         keeps,
         tt,
         subst (λ (i : ℕ). TheRule (record { words = set s.words i x; homes = s.homes; views = set s.views id w })) (ap (λ (y : Shape). next_at y q) shape)
-            (after_word s r (next_at z q) x (set s.views id w) s.homes (record ws { next = put_at ws.next q x }) refl (set_next z s.words x q below r.wide) (parts_link board free_slots memo z ws home s.views p id v at q x own)),
+            (after_word s r (next_at z q) x (set s.views id w) s.homes (record ws { next = put_at ws.next q x }) refl (set_next z s.words x q below r.wide) (parts_link board free_slots memo z ws home s.views p id v at q x own) (told_still s r id v w at refl)),
         refl,
       )
 
@@ -336,7 +316,7 @@ module _ {S : Type 0} (board : S → List (std.Option Cell)) (free_slots : S →
         subst (λ b. TheRule (stepped s word (either b (suc q) n) id me.1 w keeps)) (sym (eq-eqb n link hit))
             (subst (λ (i : ℕ). TheRule (record { words = set s.words i (suc q); homes = s.homes; views = set s.views id w })) word_is
             (after_word s r (head_at z (head_of z (ws.node q))) (suc q) (set s.views id w) s.homes (record ws { head = put_at ws.head (head_of z (ws.node q)) (suc q) }) refl (set_head z s.words (suc q) (head_of z (ws.node q)) below r.wide)
-            (parts_push board free_slots memo z ws home s.views p id v at q link loose linked (head_is ∙ hit)))),
+            (parts_push board free_slots memo z ws home s.views p id v at q link loose linked (head_is ∙ hit)) (told_still s r id v w at refl))),
         ((λ _. refl), (λ miss. absurd (miss hit))),
       ))
       (λ miss. (
@@ -374,39 +354,3 @@ module _ {S : Type 0} (board : S → List (std.Option Cell)) (free_slots : S →
       first : (next : ℕ → ℕ) (link : ℕ) (ss : List ℕ) → Along next link ss → link ≡ link_to ss
       first next link [] a = a
       first next link (x ∷ xs) a = a.0
-
-  abbrev pub loaded_head : ℕ → ℕ → Step (std.Option S) → Sat → ℕ → Sat → Type 0
-  loaded_head head level st m n m' = (rest : List ℕ) × (m' ≡ (handed m.0 (record m.0.hand { walk = Some (record { head = head; level = level; link = n; rest = rest; whole = is_holding m.0.shares.order }) }), m.1))
-
-  -- the load of a head, with a level's turn in hand: all of its chain is known then; the whole of it under the order hold
-  pub loads_head_word : (slots id : ℕ) (me : Sat) (head level : ℕ) → me.0.draws.live ≡ true → (me.0.shares.op ≡ shares.Held) ⊎ (me.0.shares.order ≡ Holding) → HasLevel me.0.hand level → head < heads (shape_in me.0.draws)
-      → Allows TheRule slots id me (head_at (shape_in me.0.draws) head) (λ n. n) (loaded_head head level (step slots (head_at (shape_in me.0.draws) head) 0 0 none) me)
-  loads_head_word slots id me head level live share has inside s r long at small =
-      let v = me.0 in
-      let z = r.shape in
-      let p = r.parts in
-      let home = λ (k : ℕ). get_elem? s.homes k in
-      let ws = words_of z s.words in
-      let shape = shape_is board free_slots memo z ws home s.views p id v at live in
-      let below : head < heads z = subst (λ (y : Shape). head < heads y) (sym shape) inside in
-      let word : ℕ = head_at (shape_in v.draws) head in
-      let n : ℕ = get_or s.words word 0 in
-      let head_is : ws.head head ≡ n = here_head z s.words 0 head below ∙ ap (λ (y : Shape). get_or s.words (head_at y head) 0) shape in
-      let walk : Walk = record { head = head; level = level; link = n; rest = p.chain head; whole = is_holding v.shares.order } in
-      let w : View = handed v (record v.hand { walk = Some walk }) in (
-        w,
-        keeps,
-        tt,
-        subst (λ (l : List ℕ). TheRule (record { words = l; homes = s.homes; views = set s.views id w })) (sym (set-get_or s.words word 0)) (record {
-          shape = z;
-          wide = r.wide;
-          long = r.long;
-          parts = parts_walk board free_slots memo z ws home s.views p id v at walk share live has below (sym head_is) refl (is_held v.shares.order);
-        }),
-        (p.chain head, refl),
-      )
-    where
-      is_held : (h : Hold) → is_holding h ≡ true → h ≡ Holding
-      is_held Holding e = refl
-      is_held Free e = absurd (true≢false (sym e))
-      is_held Claimed e = absurd (true≢false (sym e))

@@ -37,7 +37,7 @@ use Rattle.words_rule.specs.Loads.{IsInside, LoadedWord, seeing, sees_of}
 use Rattle.words_rule.specs.Known.{denoted_in, noted_function}
 use Rattle.words_rule.proofs.Layouts.{here_node}
 use Rattle.words_rule.proofs.Lists.{each_set, set_at}
-use Rattle.words_rule.proofs.Draws.{by_full, by_pending}
+use Rattle.words_rule.proofs.Draws.{by_full, by_pending, one_still}
 use Rattle.words_rule.proofs.Rewrites.{parts_known}
 use Rattle.words_rule.proofs.Stepping.{shape_is}
 use Rattle.words_rule.proofs.Storing.{edge_at}
@@ -204,6 +204,6 @@ module _ {S : Type 0} (board : S → List (std.Option Cell)) (free_slots : S →
         keeps,
         tt,
         subst (λ (y : List ℕ). TheRule (record { words = y; homes = s.homes; views = set s.views id (seeing v l.list) })) (sym (set-get_or s.words word 0))
-            (record { shape = z; wide = r.wide; long = r.long; parts = parts_seeing z ws home s.views p id v at live l.list l.true_still }),
+            (record { shape = z; wide = r.wide; long = r.long; parts = parts_seeing z ws home s.views p id v at live l.list l.true_still; one = one_still z ws.order ws.node ws.count s.views id v (seeing v l.list) at refl r.one }),
         (refl, refl, subst (λ (y : ℕ). LoadedWord v (seeing v l.list) q y) is l.loaded),
       )

@@ -25,7 +25,7 @@ use Rattle.words_rule.specs.Rule.{Parts, Rule, Tied, draws_in, tallies_in, hands
 use Rattle.words_rule.proofs.Seeing.{seen_other}
 use Rattle.words_rule.proofs.Lists.{each_set}
 use Rattle.words_rule.proofs.Sifting.{steps_same}
-use Rattle.words_rule.proofs.Draws.{frame, by_full, by_pending}
+use Rattle.words_rule.proofs.Draws.{frame, by_full, by_pending, one_still}
 use Rattle.words_rule.proofs.Handed.{ordered_same}
 use Rattle.node_store.specs.Contents.{view_of}
 use Rattle.words_rule.specs.Remembered.{Remembered}
@@ -81,4 +81,5 @@ module _ {S : Type 0} (board : S → List (std.Option Cell)) (free_slots : S →
     wide = r.wide;
     long = r.long;
     parts = parts_work r.shape (words_of r.shape s.words) (λ (k : ℕ). get_elem? s.homes k) s.views r.parts id v at x;
+    one = one_still r.shape (words_of r.shape s.words).order (words_of r.shape s.words).node (words_of r.shape s.words).count s.views id v (record v { work = x }) at refl r.one;
   }

@@ -2,7 +2,6 @@
 use Rattle.std.specs.Prelude.{◌≡◌, ◌⊎◌, ℕ, ◌+◌, ◌<◌, ◌≤◌, Bool, List, slice_index}
 use Rattle.edge_bits.specs.Words.{unpack_of}
 use Rattle.function_laws.specs.EntryOrders.{opening_orders}
-use Rattle.handle_count.specs.CountWords.{count_of}
 use Rattle.words_rule.specs.Views.{sizes_for}
 use Rattle.words_rule.specs.Layout.{Shape, Words, entry_at, head_of, heads, node_at, order_at, places, words_of}
 use Rattle.words_rule.specs.Chains.{Chains}
@@ -21,6 +20,7 @@ pub record HasNodes (z : Shape) (old new : List ℕ) : Type 0 where
   pub rest : words_of z new ≡ record (words_of z old) { node = (words_of z new).node }
   pub node : (s : ℕ) → unpack_of ((words_of z new).node s) ≡ opening_word z.variables s
   pub fits : (s : ℕ) → (words_of z new).node s < 18446744073709551616
+  pub behind : (s : ℕ) → 5 + z.variables ≤ s → (words_of z new).node s ≡ 0
 
 -- these slots are on chains, and no word but heads and links was written
 pub record AreLinked (z : Shape) (old new : List ℕ) (on : ℕ → Bool) : Type 0 where
@@ -35,6 +35,7 @@ pub record AreFirst (z : Shape) (ws : Words) : Type 0 where
   pub order : (p : ℕ) → p < places z + places z → ws.order p ≡ entry_at z (opening_orders (sizes_for z.variables z.elements)) p
   pub node : (s : ℕ) → unpack_of (ws.node s) ≡ opening_word z.variables s
   pub fits : (s : ℕ) → ws.node s < 18446744073709551616
-  pub count : (k : ℕ) → count_of (ws.count k) ≡ 0
+  pub behind : (s : ℕ) → 5 + z.variables ≤ s → ws.node s ≡ 0
+  pub count : (k : ℕ) → ws.count k ≡ 0
   pub chain : ℕ → List ℕ
   pub chains : Chains (heads z) ws.head ws.next (head_of z) ws.node (opening_on z.variables) chain

@@ -6,6 +6,7 @@ use Rattle.handle_count.specs.CountWords.{count_of}
 use Rattle.words_rule.specs.declared.view.View.{View}
 use Rattle.words_rule.specs.Shapes.{shape_in}
 use Rattle.words_rule.specs.Layout.{count_at}
+use Rattle.words_rule.specs.OneSession.{TellsOne}
 use Rattle.words_rule.specs.Known.{noted_function}
 use Rattle.words_rule.specs.Tallies.{refs, tally_of, times}
 
@@ -25,4 +26,4 @@ pub record HasCounted (k n : ℕ) (v u : View) : Type 0 where
 module _ {S : Type 0} where
   -- of the slot k whose word it is
   abbrev pub count_loaded : Step S → Me S View → ℕ → Me S View → Type 0
-  count_loaded st m n m' = (m'.0.draws ≡ m.0.draws) × (m'.1 ≡ m.1) × ((k : ℕ) → st.word ≡ count_at (shape_in m.0.draws) k → HasCounted k (count_of n) m.0 m'.0)
+  count_loaded st m n m' = (m'.0.draws ≡ m.0.draws) × (m'.1 ≡ m.1) × ((k : ℕ) → st.word ≡ count_at (shape_in m.0.draws) k → HasCounted k (count_of n) m.0 m'.0) × TellsOne st m n

@@ -8,12 +8,14 @@ use Rattle.words_rule.specs.declared.view.Held.{Held as HeldEdge}
 use Rattle.words_rule.specs.declared.view.Row.{Row}
 use Rattle.words_rule.specs.declared.view.Share.TheVariants.{Held}
 use Rattle.words_rule.specs.declared.view.Counts.{Counts}
+use Rattle.words_rule.specs.declared.view.Stored.{Stored}
 use Rattle.words_rule.specs.declared.view.View.{View}
 use Rattle.words_rule.specs.Shapes.{shape_in}
 use Rattle.words_rule.specs.Layout.{count_at}
 use Rattle.words_rule.specs.Kept.{IsHeldBy}
 use Rattle.words_rule.specs.Known.{noted_content}
 use Rattle.words_rule.specs.Tallies.{lifted}
+use Rattle.words_rule.specs.OneSession.{counting_down, counting_up}
 
 -- a row of the seat's own has this edge with this function
 abbrev pub HasRow : List Row → HeldEdge → Type 0
@@ -29,21 +31,20 @@ others_of [] = []
 others_of (x ∷ xs) = xs
 
 module _ {S : Type 0} where
-  -- only the counts change, and to these
-  abbrev pub IsRecounted : Me S View → Counts → Me S View → Type 0
-  IsRecounted m c m' = m' ≡ (record m.0 { counts = c }, m.1)
+  -- only the counts change, and to these, and a count word is stored
+  abbrev pub IsRecounted : Me S View → Counts → Stored → Me S View → Type 0
+  IsRecounted m c l m' = m' ≡ (record m.0 { counts = c; stored = l }, m.1)
 
   -- a slot is counted up, and its generation is told
   abbrev pub counted_up : HeldEdge → Step S → Me S View → ℕ → Me S View → Type 0
-  counted_up held st m n m' = IsRecounted m (lifted held (generation_of n) m.0.counts) m'
+  counted_up held st m n m' = IsRecounted m (lifted held (generation_of n) m.0.counts) (counting_up held.edge.index m.0.stored) m'
 
-  -- what is owed first is counted down
+  -- of the slot k whose word it is: what is owed first is counted down; one pin more; the first pin goes
   abbrev pub counted_down : Step S → Me S View → ℕ → Me S View → Type 0
-  counted_down st m n m' = IsRecounted m (record m.0.counts { owed = others_of m.0.counts.owed }) m'
+  counted_down st m n m' = (k : ℕ) → st.word ≡ count_at (shape_in m.0.draws) k → IsRecounted m (record m.0.counts { owed = others_of m.0.counts.owed }) (counting_down k m.0.stored) m'
 
-  -- of the slot k whose word it is: one pin more; the first pin goes; the count is found at 0, and else nothing is told
   abbrev pub pinned : Step S → Me S View → ℕ → Me S View → Type 0
-  pinned st m n m' = (k : ℕ) → st.word ≡ count_at (shape_in m.0.draws) k → IsRecounted m (record m.0.counts { pins = k ∷ m.0.counts.pins }) m'
+  pinned st m n m' = (k : ℕ) → st.word ≡ count_at (shape_in m.0.draws) k → IsRecounted m (record m.0.counts { pins = k ∷ m.0.counts.pins }) (counting_up k m.0.stored) m'
 
   abbrev pub unpinned : Step S → Me S View → ℕ → Me S View → Type 0
-  unpinned st m n m' = IsRecounted m (record m.0.counts { pins = others_of m.0.counts.pins }) m'
+  unpinned st m n m' = (k : ℕ) → st.word ≡ count_at (shape_in m.0.draws) k → IsRecounted m (record m.0.counts { pins = others_of m.0.counts.pins }) (counting_down k m.0.stored) m'

@@ -1,5 +1,5 @@
 -- What the steps of the holder of the order tell.
-use Rattle.std.specs.Prelude.{◌≡◌, ◌⊎◌, ℕ, ◌+◌, ◌<◌, ◌≤◌, ◌++◌, List, [], ◌∷◌, Bool, true, false, length, slice_index, Some, None}
+use Rattle.std.specs.Prelude.{◌≡◌, ◌⊎◌, ℕ, ◌+◌, ◌-◌, ◌<◌, ◌≤◌, ◌++◌, List, [], ◌∷◌, Bool, true, false, length, slice_index, Some, None}
 use Rattle.std.specs.Prelude as std
 use Rattle.atomic_table.specs.Table.{Me, Step, rest}
 use Rattle.computed_cache.specs.Entries.{places}
@@ -28,6 +28,7 @@ use Rattle.words_rule.specs.HeldContents.{KnowsAll, held_bits, held_content, num
 use Rattle.words_rule.specs.Kept.{whole_of}
 use Rattle.words_rule.specs.Layout.{count_at, head_at, head_of, next_at, node_at, order_at}
 use Rattle.words_rule.specs.Moves.{HasNoted}
+use Rattle.words_rule.specs.OneSession.{TellsOne, count_by, storing_count, storing_node, storing_order}
 use Rattle.words_rule.specs.Shapes.{shape_in}
 use Rattle.words_rule.specs.Tallies.{one_if}
 use Rattle.words_rule.specs.Views.{orders_of, told_orders}
@@ -49,6 +50,7 @@ pub record HasLearnt (v u : View) : Type 0 where
   pub counts : u.counts ≡ record v.counts { zeros = u.counts.zeros; above = u.counts.above }
   pub known : u.known ≡ record v.known { words = u.known.words; seen = u.known.seen; ages = u.known.ages }
   pub work : u.work ≡ record v.work { counts = u.work.counts }
+  pub stored : u.stored ≡ v.stored
   pub knows : KnowsAll u
   pub above : NotesCounted u
   pub stays : NotesStay v u
@@ -74,7 +76,7 @@ IsAtFront v head slot link = (n : Walk) × (behind : List ℕ) × (v.hand.walk �
 abbrev pub IsBehind : View → ℕ → ℕ → ℕ → Type 0
 IsBehind v before slot link = (n : Walk) × (front behind : List ℕ) × (v.hand.walk ≡ Some n) × (n.whole ≡ true) × (n.rest ≡ front ++ before ∷ slot ∷ behind) × (link ≡ link_to behind)
 
--- what a step of a holder on a node leaves
+-- what a step of a holder on a node leaves, but for the word that it stores
 pub record IsHolderStill (v u : View) : Type 0 where
   pub draws : u.draws ≡ v.draws
   pub shares : u.shares ≡ v.shares
@@ -98,6 +100,7 @@ pub record IsAddable (k : Kind) (w : Content) (node : Node) : Type 0 where
 pub record HasAdded (k : Kind) (node : Node) (list : List ℕ) (slot bits : ℕ) (v u : View) : Type 0 where
   pub still : IsHolderStill v u
   pub hand : u.hand ≡ record v.hand { free = Some list; loose = Some slot; link = None }
+  pub stored : u.stored ≡ storing_node slot bits v.stored
   pub content : held_content u ≡ with_node (held_content v) slot node (node_denotes k (held_content v) node)
   pub bits_are : held_bits u ≡ put_at (held_bits v) slot bits
   pub knows : KnowsAll u
@@ -106,6 +109,7 @@ pub record HasAdded (k : Kind) (node : Node) (list : List ℕ) (slot bits : ℕ)
 pub record HasRewritten (node : Node) (slot bits : ℕ) (v u : View) : Type 0 where
   pub still : IsHolderStill v u
   pub hand : u.hand ≡ v.hand
+  pub stored : u.stored ≡ storing_node slot bits v.stored
   pub content : held_content u ≡ rewritten (held_content v) slot node.var (plain node.hi) node.lo
   pub bits_are : held_bits u ≡ put_at (held_bits v) slot bits
   pub knows : KnowsAll u
@@ -118,6 +122,7 @@ emptied w s = record w { word = put_at w.word s None; function = put_at w.functi
 pub record HasFreed (list : List ℕ) (slot : ℕ) (v u : View) : Type 0 where
   pub still : IsHolderStill v u
   pub hand : u.hand ≡ freeing slot list v.hand
+  pub stored : u.stored ≡ storing_node slot 0 v.stored
   pub content : held_content u ≡ emptied (held_content v) slot
   pub bits_are : held_bits u ≡ put_at (held_bits v) slot 0
   pub knows : KnowsAll u
@@ -134,13 +139,13 @@ pub record HasFound (slot n : ℕ) (v u : View) : Type 0 where
 
 -- a slot that nothing holds got another generation
 pub record HasRenewed (slot n : ℕ) (v u : View) : Type 0 where
-  pub is : u ≡ record v { known = record v.known { ages = u.known.ages } }
+  pub is : u ≡ record v { known = record v.known { ages = u.known.ages }; stored = storing_count slot n v.stored }
   pub content : held_content u ≡ record (held_content v) { generation = put_at (held_content v).generation slot (generation_of n) }
   pub knows : KnowsAll u
 
--- a slot was pinned, or is no longer
-pub record HasPinned (slot : ℕ) (pinned : Bool) (pins : List ℕ) (v u : View) : Type 0 where
-  pub is : u ≡ record v { counts = record v.counts { pins = pins } }
+-- a slot was pinned, or is no longer, and its count word is this
+pub record HasPinned (slot : ℕ) (pinned : Bool) (pins : List ℕ) (word : ℕ) (v u : View) : Type 0 where
+  pub is : u ≡ record v { counts = record v.counts { pins = pins }; stored = storing_count slot word v.stored }
   pub content : held_content u ≡ with_pin (held_content v) slot pinned
   pub knows : KnowsAll u
 
@@ -153,6 +158,7 @@ pub record HasExchanged (order : Order) (level : ℕ) (v u : View) : Type 0 wher
   pub hand : u.hand ≡ v.hand
   pub told : told_orders u.known ≡ told_orders v.known
   pub pending : u.known.pending ≡ dues_of (shape_in v.draws) (orders_of v.known) order level
+  pub stored : u.stored ≡ storing_order (position (shape_in v.draws) order level) (slice_index (in_order (orders_of v.known) order) (level + 1)) v.stored
   pub content : held_content u ≡ record (held_content v) { orders = exchanged (held_content v).orders order level; half = None }
   pub bits_are : held_bits u ≡ held_bits v
   pub knows : KnowsAll u
@@ -172,7 +178,7 @@ module _ {S : Type 0} where
   all_learnt st m n m' = (m'.1 ≡ m.1) × HasLearnt m.0 m'.0
 
   abbrev pub held_loaded : Step S → Me S View → ℕ → Me S View → Type 0
-  held_loaded st m n m' = (m' ≡ m) × ((q : ℕ) → st.word ≡ node_at (shape_in m.0.draws) q → n ≡ held_bits m.0 q)
+  held_loaded st m n m' = (m' ≡ m) × ((q : ℕ) → st.word ≡ node_at (shape_in m.0.draws) q → n ≡ held_bits m.0 q) × TellsOne st m n
 
   abbrev pub HasLoadedWhole : ℕ → ℕ → Me S View → ℕ → Me S View → Type 0
   HasLoadedWhole head level m n m' =
@@ -200,20 +206,20 @@ module _ {S : Type 0} where
   node_freed st m n m' = (m'.0.draws ≡ m.0.draws) × (m'.1 ≡ m.1) × ((q : ℕ) → st.word ≡ node_at (shape_in m.0.draws) q → (list : List ℕ) → m.0.hand.free ≡ Some list → HasFreed list q m.0 m'.0)
 
   abbrev pub count_found : Step S → Me S View → ℕ → Me S View → Type 0
-  count_found st m n m' = (m'.0.draws ≡ m.0.draws) × (m'.1 ≡ m.1) × ((k : ℕ) → st.word ≡ count_at (shape_in m.0.draws) k → HasFound k n m.0 m'.0)
+  count_found st m n m' = (m'.0.draws ≡ m.0.draws) × (m'.1 ≡ m.1) × ((k : ℕ) → st.word ≡ count_at (shape_in m.0.draws) k → HasFound k n m.0 m'.0) × TellsOne st m n
 
   abbrev pub generation_stored : Step S → Me S View → ℕ → Me S View → Type 0
   generation_stored st m n m' = (m'.0.draws ≡ m.0.draws) × (m'.1 ≡ m.1) × ((k : ℕ) → st.word ≡ count_at (shape_in m.0.draws) k → HasRenewed k st.first m.0 m'.0)
 
   abbrev pub slot_pinned : Step S → Me S View → ℕ → Me S View → Type 0
-  slot_pinned st m n m' = (m'.0.draws ≡ m.0.draws) × (m'.1 ≡ m.1) × ((k : ℕ) → st.word ≡ count_at (shape_in m.0.draws) k → HasPinned k true (k ∷ m.0.counts.pins) m.0 m'.0)
+  slot_pinned st m n m' = (m'.0.draws ≡ m.0.draws) × (m'.1 ≡ m.1) × ((k : ℕ) → st.word ≡ count_at (shape_in m.0.draws) k → HasPinned k true (k ∷ m.0.counts.pins) (count_by m.0.stored k + 1) m.0 m'.0)
 
   abbrev pub slot_unpinned : Step S → Me S View → ℕ → Me S View → Type 0
-  slot_unpinned st m n m' = (m'.0.draws ≡ m.0.draws) × (m'.1 ≡ m.1) × ((k : ℕ) → st.word ≡ count_at (shape_in m.0.draws) k → HasPinned k false (numbers_without k m.0.counts.pins) m.0 m'.0)
+  slot_unpinned st m n m' = (m'.0.draws ≡ m.0.draws) × (m'.1 ≡ m.1) × ((k : ℕ) → st.word ≡ count_at (shape_in m.0.draws) k → HasPinned k false (numbers_without k m.0.counts.pins) (count_by m.0.stored k - 1) m.0 m'.0)
 
   abbrev pub position_loaded : Step S → Me S View → ℕ → Me S View → Type 0
   position_loaded st m n m' = (m' ≡ m)
-      × ((order : Order) (level : ℕ) → st.word ≡ order_at (shape_in m.0.draws) (position (shape_in m.0.draws) order level) → level < length (in_order (orders_of m.0.known) order) → n ≡ slice_index (in_order (orders_of m.0.known) order) level)
+      × ((order : Order) (level : ℕ) → st.word ≡ order_at (shape_in m.0.draws) (position (shape_in m.0.draws) order level) → level < length (in_order (orders_of m.0.known) order) → n ≡ slice_index (in_order (orders_of m.0.known) order) level) × TellsOne st m n
 
   abbrev pub orders_exchanged : Step S → Me S View → ℕ → Me S View → Type 0
   orders_exchanged st m n m' = (m'.0.draws ≡ m.0.draws) × (m'.1 ≡ m.1)
@@ -221,7 +227,7 @@ module _ {S : Type 0} where
 
   -- an order word that was due is stored
   abbrev pub due_stored : Step S → Me S View → ℕ → Me S View → Type 0
-  due_stored st m n m' = (m'.0.draws ≡ m.0.draws) × (m'.1 ≡ m.1) × ((p : ℕ) → st.word ≡ order_at (shape_in m.0.draws) p → m' ≡ (record m.0 { known = record m.0.known { pending = without_level p m.0.known.pending } }, m.1))
+  due_stored st m n m' = (m'.0.draws ≡ m.0.draws) × (m'.1 ≡ m.1) × ((p : ℕ) → st.word ≡ order_at (shape_in m.0.draws) p → m' ≡ (record m.0 { known = record m.0.known { pending = without_level p m.0.known.pending }; stored = storing_order p st.first m.0.stored }, m.1))
 
   -- the free list goes back as it is; the computed table goes back, without answers
   abbrev pub free_returned : Step S → Me S View → ℕ → Me S View → Type 0

@@ -17,6 +17,7 @@ pub mod Seen
 pub mod Generations
 pub mod Halves
 pub mod Holders
+pub mod OneSession
 pub mod Rule
 pub mod Openings
 pub mod Passes

@@ -38,6 +38,7 @@ pub record LearntMemo (o : Own) (memo : List ℕ) (v u : View) : Type 0 where
   pub seat : IsSeatOf v u
   pub hand : u.hand ≡ record v.hand { memo = true }
   pub work : u.work ≡ v.work
+  pub stored : u.stored ≡ v.stored
   pub learns : Learns (known_of v o) (known_of u o)
   pub stands : Stands (known_of v o) → Stands (known_of u o)
   pub holds : AreAnswers (known_of u o).view memo

@@ -32,6 +32,7 @@ pub record HasEntered (v u : View) (x : Shares) : Type 0 where
   pub counts : u.counts ≡ v.counts
   pub hand : u.hand ≡ v.hand
   pub work : u.work ≡ v.work
+  pub stored : u.stored ≡ v.stored
   pub shares : u.shares ≡ x
   pub stands : (o : Own) → o.fulls < 18446744073709551616 → Stands (known_of u o)
   pub rows : Each (λ (row : Row). IsHeldBy (shape_in v.draws) (noted_content u).function row.held) v.draws.rows
@@ -42,6 +43,7 @@ pub record HasSetOut (v u : View) (x : Shares) : Type 0 where
   pub counts : u.counts ≡ v.counts
   pub hand : u.hand ≡ v.hand
   pub work : u.work ≡ v.work
+  pub stored : u.stored ≡ v.stored
   pub shares : u.shares ≡ x
   pub stands : (sees_of u).content base_slot ≡ Some (ZddFamily base)
   pub inside : IsInside u

@@ -23,6 +23,7 @@ use Rattle.words_rule.specs.Phase.{with_op}
 use Rattle.words_rule.specs.Dues.{slot_of, word_of}
 use Rattle.words_rule.specs.Hands.{place_of, linking, pushing, taking, with_level, without_level}
 use Rattle.words_rule.specs.Known.{Own, known_of, own_none, with_made}
+use Rattle.words_rule.specs.OneSession.{TellsOne, storing_node}
 use Rattle.words_rule.specs.Loads.{IsSeatOf, LearntMemo, LoadedNode, LoadedWord, StoredNode, seeing}
 use Rattle.edge_bits.specs.Permanent.{first_element}
 use Rattle.free_list.specs.FreeSlots.{FreeSlots}
@@ -64,12 +65,12 @@ module _ {S : Type 0} where
   next_loaded st m n m' = (m' ≡ m) × ((q : ℕ) → st.word ≡ next_at (shape_in m.0.draws) q → LeadsOn q m n)
 
   abbrev pub node_loaded : Own → Step S → Me S View → ℕ → Me S View → Type 0
-  node_loaded o st m n m' = (m'.1 ≡ m.1) × (m'.0.hand ≡ m.0.hand) × (m'.0.work ≡ m.0.work) × IsSeatOf m.0 m'.0 × ((q : ℕ) → st.word ≡ node_at (shape_in m.0.draws) q → LoadedNode (known_of m.0 o) (known_of m'.0 o) q n)
+  node_loaded o st m n m' = (m'.1 ≡ m.1) × (m'.0.hand ≡ m.0.hand) × (m'.0.work ≡ m.0.work) × (m'.0.stored ≡ m.0.stored) × IsSeatOf m.0 m'.0 × ((q : ℕ) → st.word ≡ node_at (shape_in m.0.draws) q → LoadedNode (known_of m.0 o) (known_of m'.0 o) q n) × TellsOne st m n
 
   -- the level word of a variable or an element
   abbrev pub level_loaded : Step S → Me S View → ℕ → Me S View → Type 0
   level_loaded st m n m' = (m' ≡ m)
-      × ((k : Kind) (u : ℕ) → IsVariable k (known_of m.0 own_none).view u → st.word ≡ order_at (shape_in m.0.draws) (places (shape_in m.0.draws) + place_of (shape_in m.0.draws) u) → (n ≡ level_of (orders_of m.0.known) u) × (n < first_element))
+      × ((k : Kind) (u : ℕ) → IsVariable k (known_of m.0 own_none).view u → st.word ≡ order_at (shape_in m.0.draws) (places (shape_in m.0.draws) + place_of (shape_in m.0.draws) u) → (n ≡ level_of (orders_of m.0.known) u) × (n < first_element)) × TellsOne st m n
 
   -- the first free slot was taken for a word of these bits
   pub record HasTaken (bits slot : ℕ) (m m' : Me S View) : Type 0 where
@@ -92,14 +93,14 @@ module _ {S : Type 0} where
 
   abbrev pub node_stored : Own → Step S → Me S View → ℕ → Me S View → Type 0
   node_stored o st m n m' = (m'.1 ≡ m.1) × IsSeatOf m.0 m'.0
-      × ((q : ℕ) → st.word ≡ node_at (shape_in m.0.draws) q → (m'.0.work ≡ record m.0.work { made = q ∷ m.0.work.made }) × StoredNode (known_of m.0 o) (known_of m'.0 (with_made o q)) q st.first)
+      × ((q : ℕ) → st.word ≡ node_at (shape_in m.0.draws) q → (m'.0.work ≡ record m.0.work { made = q ∷ m.0.work.made }) × (m'.0.stored ≡ storing_node q st.first m.0.stored) × StoredNode (known_of m.0 o) (known_of m'.0 (with_made o q)) q st.first)
 
   -- the step of a head, where the first operand is the link that the slot has
   abbrev pub pushed : Step S → Me S View → ℕ → Me S View → Type 0
   pushed st m n m' = (n ≡ st.first → m' ≡ (record m.0 { hand = pushing m.0.hand }, m.1)) × (n ≢ st.first → m' ≡ m)
 
   abbrev pub word_walked : Step S → Me S View → ℕ → Me S View → Type 0
-  word_walked st m n m' = (m'.1 ≡ m.1) × (m'.0 ≡ seeing m.0 m'.0.known.seen) × ((q : ℕ) → st.word ≡ node_at (shape_in m.0.draws) q → LoadedWord m.0 m'.0 q n)
+  word_walked st m n m' = (m'.1 ≡ m.1) × (m'.0 ≡ seeing m.0 m'.0.known.seen) × ((q : ℕ) → st.word ≡ node_at (shape_in m.0.draws) q → LoadedWord m.0 m'.0 q n) × TellsOne st m n
 
 module _ {S : Type 0} (board : S → List (std.Option Cell)) where
   abbrev pub board_taken : Step (std.Option S) → Me (std.Option S) View → ℕ → Me (std.Option S) View → Type 0

@@ -40,6 +40,7 @@ pub record IsBesides (v u : View) : Type 0 where
   pub counts : u.counts ≡ v.counts
   pub hand : u.hand ≡ v.hand
   pub work : u.work ≡ v.work
+  pub stored : u.stored ≡ v.stored
 
 module _ {S : Type 0} where
   -- a live pass of this table with no share
@@ -52,7 +53,7 @@ module _ {S : Type 0} where
 
   -- and what was noted of counts under the order hold goes
   abbrev pub KeepsBut : Pass S → Pass S → Type 0
-  KeepsBut p q = ((view q).draws ≡ (view p).draws) × ((view q).counts ≡ record (view p).counts { zeros = []; above = [] }) × ((view q).hand ≡ (view p).hand) × ((view q).work ≡ (view p).work) × (in_hand q ≡ in_hand p)
+  KeepsBut p q = ((view q).draws ≡ (view p).draws) × ((view q).counts ≡ record (view p).counts { zeros = []; above = [] }) × ((view q).hand ≡ (view p).hand) × ((view q).work ≡ (view p).work) × ((view q).stored ≡ (view p).stored) × (in_hand q ≡ in_hand p)
 
   -- an operation share alone, in the midst of nothing
   abbrev pub IsShare : Guard S → OpShare S → Type 0

@@ -25,6 +25,7 @@ use Rattle.words_rule.specs.declared.view.Gone.{Gone}
 use Rattle.words_rule.specs.declared.view.Known.{Known}
 use Rattle.words_rule.specs.declared.view.Draws.{Draws}
 use Rattle.words_rule.specs.declared.view.Work.{Work}
+use Rattle.words_rule.specs.declared.view.Stored.{Stored}
 use Rattle.words_rule.specs.declared.view.Opening.{Opening}
 
 -- n variables and m elements
@@ -167,6 +168,10 @@ with_gone d e = record d { rows = d.rows ++ e.rows; gone = d.gone ++ gone_of e â
 -- nothing stored, nothing refused
 abbrev pub no_work : Work
 no_work = record { made = []; fulls = 0; due = None; counts = [] }
+
+-- no word stored
+abbrev pub nothing_stored : Stored
+nothing_stored = record { nodes = []; orders = []; counts = [] }
 
 -- the slot 0, and no values
 abbrev pub no_held : Held

@@ -10,6 +10,7 @@ ghost use Rattle.words_rule.specs.Hands.{HasLevel, Owns, linking, pushing, with_
 ghost use Rattle.words_rule.specs.Seen.{HasShare};
 ghost use Rattle.words_rule.specs.Known.{known_of, with_made};
 ghost use Rattle.words_rule.specs.Loads.{IsSeatOf, LoadedNode, LoadedWord, StoredNode, TakenReads, seeing, sees_of};
+ghost use Rattle.words_rule.specs.OneSession.{node_by, storing_node};
 ghost use Rattle.words_rule.specs.Plays.{HasLoaded, LeadsOn};
 ghost use Rattle.words_rule.specs.Passes.{me, view, in_hand, IsLiveOf, IsPassOf};
 
@@ -85,6 +86,8 @@ impl<S: Content> Guard<S> {
         requires few { E.own.fulls < 18446744073709551616 }
         ensures own { IsPassOf self.now pass.new × (in_hand pass.new ≡ in_hand pass.old) }
         ensures stands { IsSeatOf (view pass.old) (view pass.new) × ((view pass.new).hand ≡ (view pass.old).hand) × ((view pass.new).work ≡ (view pass.old).work) }
+        ensures told { (view pass.new).stored ≡ (view pass.old).stored }
+        ensures one { (view pass.old).draws.sessions ≡ 1 → result ≡ node_by (shape_in (view pass.old).draws) (view pass.old).stored slot }
         ensures loaded { LoadedNode (known_of (view pass.old) E.own) (known_of (view pass.new) E.own) slot result }
     {
         let word = pass.sizes.node(slot);
@@ -116,6 +119,7 @@ impl<S: Content> Guard<S> {
         requires few { E.own.fulls < 18446744073709551616 }
         ensures own { IsPassOf self.now pass.new × (in_hand pass.new ≡ in_hand pass.old) }
         ensures stands { IsSeatOf (view pass.old) (view pass.new) × ((view pass.new).work ≡ record (view pass.old).work { made = slot ∷ (view pass.old).work.made }) }
+        ensures told { (view pass.new).stored ≡ storing_node slot bits (view pass.old).stored }
         ensures stored { StoredNode (known_of (view pass.old) E.own) (known_of (view pass.new) (with_made E.own slot)) slot bits }
     {
         let word = pass.sizes.node(slot);
@@ -151,6 +155,7 @@ impl<S: Content> Guard<S> {
         ensures own { IsPassOf self.now pass.new × (in_hand pass.new ≡ in_hand pass.old) }
         ensures stands { view pass.new ≡ seeing (view pass.old) (view pass.new).known.seen }
         ensures loaded { LoadedWord (view pass.old) (view pass.new) slot result }
+        ensures one { (view pass.old).draws.sessions ≡ 1 → result ≡ node_by (shape_in (view pass.old).draws) (view pass.old).stored slot }
     {
         let word = pass.sizes.node(slot);
         self.table.shared.load::<LoadWord>(&mut pass.seat, word)

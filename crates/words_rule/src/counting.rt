@@ -1,9 +1,11 @@
 //! Steps on the count words.
 ghost use Rattle.std.specs.Prelude.{List, ◌≡◌, ◌<◌, ◌^◌, ◌∷◌, ℕ};
+ghost use Rattle.handle_count.specs.CountWords.{count_of};
 ghost use Rattle.words_rule.specs.declared.view.Held.{Held};
 ghost use Rattle.words_rule.specs.declared.view.Hold.TheVariants.{Holding};
 ghost use Rattle.words_rule.specs.CountLoads.{HasCounted};
 ghost use Rattle.words_rule.specs.CountPlays.{MayRaise, others_of};
+ghost use Rattle.words_rule.specs.OneSession.{count_by, counting_down, counting_up};
 ghost use Rattle.words_rule.specs.Tallies.{lifted, size, tally_of, times};
 ghost use Rattle.words_rule.specs.Passes.{view, in_hand, IsLiveOf, IsPassOf};
 
@@ -25,7 +27,7 @@ impl<S: Content> Guard<S> {
         requires room { size (tally_of (view pass.old)) < 2 ^ 25 }
         requires may { MayRaise (view pass.old) E.held }
         ensures own { IsPassOf self.now pass.new × (in_hand pass.new ≡ in_hand pass.old) }
-        ensures raised { view pass.new ≡ record (view pass.old) { counts = lifted E.held result (view pass.old).counts } }
+        ensures raised { view pass.new ≡ record (view pass.old) { counts = lifted E.held result (view pass.old).counts; stored = counting_up slot (view pass.old).stored } }
     {
         let word = pass.sizes.count(slot);
         let found = self
@@ -41,7 +43,7 @@ impl<S: Content> Guard<S> {
         requires within { slot < (view pass.old).draws.slots }
         requires owed { (held : Held) × (rest : List Held) × ((view pass.old).counts.owed ≡ held ∷ rest) × (held.edge.index ≡ slot) }
         ensures own { IsPassOf self.now pass.new × (in_hand pass.new ≡ in_hand pass.old) }
-        ensures lowered { view pass.new ≡ record (view pass.old) { counts = record (view pass.old).counts { owed = others_of (view pass.old).counts.owed } } }
+        ensures lowered { view pass.new ≡ record (view pass.old) { counts = record (view pass.old).counts { owed = others_of (view pass.old).counts.owed }; stored = counting_down slot (view pass.old).stored } }
     {
         let word = pass.sizes.count(slot);
         self.table
@@ -56,7 +58,7 @@ impl<S: Content> Guard<S> {
         requires hold { (view pass.old).shares.order ≡ Holding }
         requires once { times slot (view pass.old).counts.pins ≡ 0 }
         ensures own { IsPassOf self.now pass.new × (in_hand pass.new ≡ in_hand pass.old) }
-        ensures pinned { view pass.new ≡ record (view pass.old) { counts = record (view pass.old).counts { pins = slot ∷ (view pass.old).counts.pins } } }
+        ensures pinned { view pass.new ≡ record (view pass.old) { counts = record (view pass.old).counts { pins = slot ∷ (view pass.old).counts.pins }; stored = counting_up slot (view pass.old).stored } }
     {
         let word = pass.sizes.count(slot);
         self.table.shared.fetch_add::<Pin>(&mut pass.seat, word, 1);
@@ -69,7 +71,7 @@ impl<S: Content> Guard<S> {
         requires hold { (view pass.old).shares.order ≡ Holding }
         requires pinned { (rest : List ℕ) × ((view pass.old).counts.pins ≡ slot ∷ rest) }
         ensures own { IsPassOf self.now pass.new × (in_hand pass.new ≡ in_hand pass.old) }
-        ensures unpinned { view pass.new ≡ record (view pass.old) { counts = record (view pass.old).counts { pins = others_of (view pass.old).counts.pins } } }
+        ensures unpinned { view pass.new ≡ record (view pass.old) { counts = record (view pass.old).counts { pins = others_of (view pass.old).counts.pins }; stored = counting_down slot (view pass.old).stored } }
     {
         let word = pass.sizes.count(slot);
         self.table
@@ -85,6 +87,7 @@ impl<S: Content> Guard<S> {
         requires hold { (view pass.old).shares.order ≡ Holding }
         ensures own { IsPassOf self.now pass.new × (in_hand pass.new ≡ in_hand pass.old) }
         ensures counted { HasCounted slot result (view pass.old) (view pass.new) }
+        ensures one { (view pass.old).draws.sessions ≡ 1 → result ≡ count_of (count_by (view pass.old).stored slot) }
     {
         let word = pass.sizes.count(slot);
         let found = self.table.shared.load::<LoadCount>(&mut pass.seat, word);

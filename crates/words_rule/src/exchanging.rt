@@ -9,6 +9,7 @@ ghost use Rattle.words_rule.specs.Hands.{without_level};
 ghost use Rattle.words_rule.specs.HeldContents.{KnowsAll, held_content};
 ghost use Rattle.words_rule.specs.HolderPlays.{HasExchanged};
 ghost use Rattle.words_rule.specs.Layout.{places};
+ghost use Rattle.words_rule.specs.OneSession.{storing_order};
 ghost use Rattle.words_rule.specs.Shapes.{shape_in};
 ghost use Rattle.words_rule.specs.Views.{orders_of};
 ghost use Rattle.words_rule.specs.Passes.{view, in_hand, IsLiveOf, IsPassOf};
@@ -46,7 +47,7 @@ impl<S: Content> Guard<S> {
         requires within { level < length (in_order (orders_of (view pass.old).known) order) }
         requires number { number ≡ slice_index (in_order (orders_of (view pass.old).known) order) level }
         ensures own { IsPassOf self.now pass.new × (in_hand pass.new ≡ in_hand pass.old) }
-        ensures stored { view pass.new ≡ record (view pass.old) { known = record (view pass.old).known { pending = without_level (position (shape_in (view pass.old).draws) order level) (view pass.old).known.pending } } }
+        ensures stored { view pass.new ≡ record (view pass.old) { known = record (view pass.old).known { pending = without_level (position (shape_in (view pass.old).draws) order level) (view pass.old).known.pending }; stored = storing_order (position (shape_in (view pass.old).draws) order level) number (view pass.old).stored } }
     {
         let word = pass.sizes.position(order, level);
         self.table
@@ -62,7 +63,7 @@ impl<S: Content> Guard<S> {
         requires within { number < length (in_order (orders_of (view pass.old).known) order) }
         requires level { level ≡ place_of number (in_order (orders_of (view pass.old).known) order) }
         ensures own { IsPassOf self.now pass.new × (in_hand pass.new ≡ in_hand pass.old) }
-        ensures stored { view pass.new ≡ record (view pass.old) { known = record (view pass.old).known { pending = without_level (places (shape_in (view pass.old).draws) + item (shape_in (view pass.old).draws) order number) (view pass.old).known.pending } } }
+        ensures stored { view pass.new ≡ record (view pass.old) { known = record (view pass.old).known { pending = without_level (places (shape_in (view pass.old).draws) + item (shape_in (view pass.old).draws) order number) (view pass.old).known.pending }; stored = storing_order (places (shape_in (view pass.old).draws) + item (shape_in (view pass.old).draws) order number) level (view pass.old).stored } }
     {
         let word = pass.sizes.level_of(order, number);
         self.table

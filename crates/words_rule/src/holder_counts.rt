@@ -1,10 +1,11 @@
 //! The holder of the order on count words.
-ghost use Rattle.std.specs.Prelude.{◌≡◌, ◌<◌, ◌∷◌, true, false};
+ghost use Rattle.std.specs.Prelude.{◌≡◌, ◌+◌, ◌-◌, ◌<◌, ◌∷◌, true, false};
 ghost use Rattle.handle_count.specs.CountWords.{count_of};
 ghost use Rattle.node_store.specs.Contents.{IsUsed};
 ghost use Rattle.words_rule.specs.declared.view.Hold.TheVariants.{Holding};
 ghost use Rattle.words_rule.specs.HeldContents.{KnowsAll, held_content, numbers_without};
 ghost use Rattle.words_rule.specs.HolderPlays.{HasFound, HasPinned, HasRenewed};
+ghost use Rattle.words_rule.specs.OneSession.{count_by};
 ghost use Rattle.words_rule.specs.Passes.{view, in_hand, IsLiveOf, IsPassOf};
 
 use crate::content::Content;
@@ -20,6 +21,7 @@ impl<S: Content> Guard<S> {
         requires within { slot < (view pass.old).draws.slots }
         ensures own { IsPassOf self.now pass.new × (in_hand pass.new ≡ in_hand pass.old) }
         ensures found { HasFound slot result (view pass.old) (view pass.new) }
+        ensures one { (view pass.old).draws.sessions ≡ 1 → result ≡ count_by (view pass.old).stored slot }
     {
         let word = pass.sizes.count(slot);
         self.table.shared.load::<FindCount>(&mut pass.seat, word)
@@ -50,7 +52,7 @@ impl<S: Content> Guard<S> {
         requires used { IsUsed (held_content (view pass.old)) slot }
         requires unpinned { (held_content (view pass.old)).pinned slot ≡ false }
         ensures own { IsPassOf self.now pass.new × (in_hand pass.new ≡ in_hand pass.old) }
-        ensures pinned { HasPinned slot true (slot ∷ (view pass.old).counts.pins) (view pass.old) (view pass.new) }
+        ensures pinned { HasPinned slot true (slot ∷ (view pass.old).counts.pins) (count_by (view pass.old).stored slot + 1) (view pass.old) (view pass.new) }
     {
         let word = pass.sizes.count(slot);
         self.table
@@ -66,7 +68,7 @@ impl<S: Content> Guard<S> {
         requires within { slot < (view pass.old).draws.slots }
         requires pinned { (held_content (view pass.old)).pinned slot ≡ true }
         ensures own { IsPassOf self.now pass.new × (in_hand pass.new ≡ in_hand pass.old) }
-        ensures unpinned { HasPinned slot false (numbers_without slot (view pass.old).counts.pins) (view pass.old) (view pass.new) }
+        ensures unpinned { HasPinned slot false (numbers_without slot (view pass.old).counts.pins) (count_by (view pass.old).stored slot - 1) (view pass.old) (view pass.new) }
     {
         let word = pass.sizes.count(slot);
         self.table

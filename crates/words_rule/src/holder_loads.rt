@@ -2,12 +2,14 @@
 ghost use Rattle.std.specs.Prelude.{◌≡◌, ◌<◌, [], length, slice_index};
 ghost use Rattle.function_laws.specs.Sizes.{in_order};
 ghost use Rattle.words_rule.specs.declared.view.Hold.TheVariants.{Holding};
+ghost use Rattle.words_rule.specs.Exchanges.{position};
 ghost use Rattle.words_rule.specs.Hands.{HasLevel};
 ghost use Rattle.words_rule.specs.HeldContents.{KnowsAll, held_bits};
 ghost use Rattle.words_rule.specs.HolderPlays.{HasLoadedWhole};
 ghost use Rattle.words_rule.specs.Layout.{heads};
 ghost use Rattle.words_rule.specs.Shapes.{shape_in};
 ghost use Rattle.words_rule.specs.Views.{orders_of};
+ghost use Rattle.words_rule.specs.OneSession.{node_by, order_by};
 ghost use Rattle.words_rule.specs.Passes.{me, view, IsLiveOf, IsPassOf};
 
 use crate::content::Content;
@@ -26,6 +28,7 @@ impl<S: Content> Guard<S> {
         ensures own { IsPassOf self.now pass.new }
         ensures same { me pass.new ≡ me pass.old }
         ensures bits { result ≡ held_bits (view pass.old) slot }
+        ensures one { (view pass.old).draws.sessions ≡ 1 → result ≡ node_by (shape_in (view pass.old).draws) (view pass.old).stored slot }
     {
         let word = pass.sizes.node(slot);
         self.table.shared.load::<LoadHeld>(&mut pass.seat, word)
@@ -55,6 +58,7 @@ impl<S: Content> Guard<S> {
         ensures own { IsPassOf self.now pass.new }
         ensures same { me pass.new ≡ me pass.old }
         ensures there { result ≡ slice_index (in_order (orders_of (view pass.old).known) order) level }
+        ensures one { (view pass.old).draws.sessions ≡ 1 → result ≡ order_by (shape_in (view pass.old).draws) (view pass.old).stored (position (shape_in (view pass.old).draws) order level) }
     {
         let word = pass.sizes.position(order, level);
         self.table.shared.load::<LoadPosition>(&mut pass.seat, word)

@@ -26,7 +26,7 @@ returns-clause-own g c =
     let e = c.store_position.ensures in
     let d = some_back pending_of s.due _ c.requires.due in
     let z = shape_in (view s.pass).draws in
-    due_stored_on s.guard.now s.pass c.store_position.new.pass s.list s.memo s.due c.requires.own e.own.0 e.own.1 (without_level (position z c.args.order c.args.level) (view s.pass).known.pending)
+    due_stored_on s.guard.now s.pass c.store_position.new.pass s.list s.memo s.due c.requires.own e.own.0 e.own.1 (without_level (position z c.args.order c.args.level) (view s.pass).known.pending) _
     (none_left z c.args.order c.args.level d.0 (ap (λ p. p.order) d.2, ap (λ p. p.level) d.2) (view s.pass).known.pending (c.requires.own.has.pending ∙ ap (dues_in z) d.1)) e.stored
 
 pub returns-clause-stored : goal.returns-clause-stored

@@ -1,5 +1,8 @@
 use Rattle.std.proofs.Common.{rules, ◌≡◌, ◌<◌, ap, sym, ◌∙◌, arith, subst}
+use Rattle.handle_count.specs.CountWords.{generation_of}
 use Rattle.words_rule.specs.Layout.{count_at}
+use Rattle.words_rule.specs.OneSession.{counting_up}
+use Rattle.words_rule.specs.Tallies.{lifted}
 use Rattle.words_rule.specs.Shapes.{shape_in}
 use Rattle.words_rule.proofs.CountSteps.{raises_slot}
 use Rattle.words_rule.proofs.Keeps.{keeps_number, keeps_sizes, keeps_words}
@@ -20,4 +23,4 @@ pub returns-clause-own : goal.returns-clause-own
 returns-clause-own g c = (c.fetch_add-found.ensures.0 ∙ c.requires.own.0, ap (λ m. m.1) c.fetch_add-found.ensures.2)
 
 pub returns-clause-raised : goal.returns-clause-raised
-returns-clause-raised g c = ap (λ m. m.0) c.fetch_add-found.ensures.2
+returns-clause-raised g c = ap (λ m. m.0) c.fetch_add-found.ensures.2 ∙ ap (λ k. record c.args.pass.now.seat.me.0 { counts = lifted g.E.Raises.held (generation_of c.fetch_add-found.result) c.args.pass.now.seat.me.0.counts; stored = counting_up k c.args.pass.now.seat.me.0.stored }) c.requires.edge

@@ -20,3 +20,6 @@ returns-clause-own g c = (c.load.ensures.0 ∙ c.requires.own.0, c.load.ensures.
 
 pub returns-clause-found : goal.returns-clause-found
 returns-clause-found g c = c.load.ensures.2.2 c.args.slot (c.count-word.ensures ∙ ap (λ z. count_at z c.args.slot) c.args.pass.now.sizes_are)
+
+pub returns-clause-one : goal.returns-clause-one
+returns-clause-one g c = λ single. (c.load.ensures.2.3 single).count c.args.slot c.requires.within (c.count-word.ensures ∙ ap (λ z. count_at z c.args.slot) c.args.pass.now.sizes_are)

@@ -1,6 +1,7 @@
 use Rattle.std.proofs.Common.{rules, ap, ◌∙◌, arith}
 use Rattle.words_rule.specs.Layout.{count_at}
 use Rattle.words_rule.proofs.CountLoads.{loads_count}
+use Rattle.handle_count.specs.CountWords.{count_of}
 use Rattle.words_rule.proofs.Keeps.{keeps_number, keeps_sizes, keeps_words}
 use Rattle.words_rule.proofs.seat.Guard.load_count.Goals as goal
 
@@ -20,3 +21,6 @@ returns-clause-own g c = (c.load-found.ensures.0 ∙ c.requires.own.0, c.load-fo
 
 pub returns-clause-counted : goal.returns-clause-counted
 returns-clause-counted g c = c.load-found.ensures.2.2 c.args.slot (c.count-word.ensures ∙ ap (λ z. count_at z c.args.slot) c.args.pass.now.sizes_are)
+
+pub returns-clause-one : goal.returns-clause-one
+returns-clause-one g c = λ single. ap count_of ((c.load-found.ensures.2.3 single).count c.args.slot c.requires.within (c.count-word.ensures ∙ ap (λ z. count_at z c.args.slot) c.args.pass.now.sizes_are))

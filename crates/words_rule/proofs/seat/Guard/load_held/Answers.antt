@@ -17,3 +17,6 @@ invariant_of-pass g c = let p = c.args.pass.now in let d = ap (λ m. m.0.draws) 
 
 pub returns-clause-bits : goal.returns-clause-bits
 returns-clause-bits g c = c.load.ensures.2.1 c.args.slot (c.node-word.ensures ∙ ap (λ z. node_at z c.args.slot) c.args.pass.now.sizes_are)
+
+pub returns-clause-one : goal.returns-clause-one
+returns-clause-one g c = λ single. (c.load.ensures.2.2 single).node c.args.slot c.requires.within (c.node-word.ensures ∙ ap (λ z. node_at z c.args.slot) c.args.pass.now.sizes_are)

@@ -2,6 +2,7 @@ use Rattle.std.proofs.Common.{rules, ◌≡◌, ◌+◌, ap, ◌∙◌, arith}
 use Rattle.words_rule.specs.Layout.{order_at, places}
 use Rattle.words_rule.specs.Hands.{place_of}
 use Rattle.words_rule.proofs.Calls.{call_load_level, place_below}
+use Rattle.words_rule.specs.Shapes.{shape_in}
 use Rattle.words_rule.proofs.Keeps.{keeps_number, keeps_sizes, keeps_words}
 use Rattle.words_rule.proofs.seat.Guard.load_level.Goals as goal
 
@@ -25,3 +26,9 @@ returns-clause-level g c = (c.load.ensures.2.1 c.requires.var.0 c.args.var c.req
 
 pub returns-clause-few : goal.returns-clause-few
 returns-clause-few g c = (c.load.ensures.2.1 c.requires.var.0 c.args.var c.requires.var.1 (c.level-word.ensures ∙ ap (λ z. order_at z (places z + place_of z c.args.var)) c.args.pass.now.sizes_are)).1
+
+pub returns-clause-one : goal.returns-clause-one
+returns-clause-one g c =
+    let v = c.args.pass.now.seat.me.0 in
+    let l = place_below g.S.Content.board g.S.Content.free_slots g.S.Content.memo v c.requires.var.0 c.args.var c.requires.var.1 in
+    λ single. (c.load.ensures.2.2 single).order (places (shape_in v.draws) + place_of (shape_in v.draws) c.args.var) (omega (arith, l)) (c.level-word.ensures ∙ ap (λ z. order_at z (places z + place_of z c.args.var)) c.args.pass.now.sizes_are)

@@ -8,7 +8,7 @@ pub load-requires : goal.load-requires
 load-requires g c = let is = (c.node-word.ensures ∙ ap (λ z. node_at z c.args.slot) c.args.pass.now.sizes_are) in (search rules, (let w = c.args.pass.now.words_are in let s = ap (λ i. i.words) c.requires.own.0 in let l = c.requires.within in let a = is in omega (arith, w, s, l, a)), call_load_node g.S.Content.board g.S.Content.free_slots g.S.Content.memo _ _ _ _ g.E.Beside.own c.args.slot is c.requires.own.1 c.requires.share c.requires.within c.requires.few)
 
 pub invariant_of-pass : goal.invariant_of-pass
-invariant_of-pass g c = let p = c.args.pass.now in let d = c.load.ensures.2.3.draws in record {
+invariant_of-pass g c = let p = c.args.pass.now in let d = c.load.ensures.2.4.draws in record {
   number_is = keeps_number p.number p.seat.me.0.draws _ d p.number_is;
   sizes_are = keeps_sizes p.sizes p.seat.me.0.draws _ d p.sizes_are;
   heads_are = p.heads_are;
@@ -19,7 +19,13 @@ pub returns-clause-own : goal.returns-clause-own
 returns-clause-own g c = (c.load.ensures.0 ∙ c.requires.own.0, c.load.ensures.2.0)
 
 pub returns-clause-stands : goal.returns-clause-stands
-returns-clause-stands g c = (c.load.ensures.2.3, c.load.ensures.2.1, c.load.ensures.2.2)
+returns-clause-stands g c = (c.load.ensures.2.4, c.load.ensures.2.1, c.load.ensures.2.2)
 
 pub returns-clause-loaded : goal.returns-clause-loaded
-returns-clause-loaded g c = c.load.ensures.2.4 c.args.slot (c.node-word.ensures ∙ ap (λ z. node_at z c.args.slot) c.args.pass.now.sizes_are)
+returns-clause-loaded g c = c.load.ensures.2.5 c.args.slot (c.node-word.ensures ∙ ap (λ z. node_at z c.args.slot) c.args.pass.now.sizes_are)
+
+pub returns-clause-told : goal.returns-clause-told
+returns-clause-told g c = c.load.ensures.2.3
+
+pub returns-clause-one : goal.returns-clause-one
+returns-clause-one g c = λ single. (c.load.ensures.2.6 single).node c.args.slot c.requires.within (c.node-word.ensures ∙ ap (λ z. node_at z c.args.slot) c.args.pass.now.sizes_are)

@@ -20,3 +20,9 @@ invariant_of-pass g c = let p = c.args.pass.now in let d = ap (λ m. m.0.draws) 
 
 pub returns-clause-there : goal.returns-clause-there
 returns-clause-there g c = c.load.ensures.2.1 c.args.order c.args.level (c.position-word.ensures ∙ ap (λ z. order_at z (position z c.args.order c.args.level)) c.args.pass.now.sizes_are) c.requires.within
+
+pub returns-clause-one : goal.returns-clause-one
+returns-clause-one g c =
+    let v = c.args.pass.now.seat.me.0 in
+    let l = position_below (shape_in v.draws) (orders_of v.known) c.requires.knows.long.0 c.requires.knows.long.1 c.args.order c.args.level c.requires.within in
+    λ single. (c.load.ensures.2.2 single).order (position (shape_in v.draws) c.args.order c.args.level) (omega (arith, l)) (c.position-word.ensures ∙ ap (λ z. order_at z (position z c.args.order c.args.level)) c.args.pass.now.sizes_are)

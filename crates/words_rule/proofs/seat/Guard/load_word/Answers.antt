@@ -23,3 +23,6 @@ returns-clause-stands g c = c.load.ensures.2.1
 
 pub returns-clause-loaded : goal.returns-clause-loaded
 returns-clause-loaded g c = c.load.ensures.2.2 c.args.slot (c.node-word.ensures ∙ ap (λ z. node_at z c.args.slot) c.args.pass.now.sizes_are)
+
+pub returns-clause-one : goal.returns-clause-one
+returns-clause-one g c = λ single. (c.load.ensures.2.3 single).node c.args.slot c.requires.within (c.node-word.ensures ∙ ap (λ z. node_at z c.args.slot) c.args.pass.now.sizes_are)

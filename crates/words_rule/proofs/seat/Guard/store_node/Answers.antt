@@ -22,4 +22,7 @@ pub returns-clause-stands : goal.returns-clause-stands
 returns-clause-stands g c = (c.store.ensures.2.1, (c.store.ensures.2.2 c.args.slot (c.node-word.ensures ∙ ap (λ z. node_at z c.args.slot) c.args.pass.now.sizes_are)).0)
 
 pub returns-clause-stored : goal.returns-clause-stored
-returns-clause-stored g c = (c.store.ensures.2.2 c.args.slot (c.node-word.ensures ∙ ap (λ z. node_at z c.args.slot) c.args.pass.now.sizes_are)).1
+returns-clause-stored g c = (c.store.ensures.2.2 c.args.slot (c.node-word.ensures ∙ ap (λ z. node_at z c.args.slot) c.args.pass.now.sizes_are)).2
+
+pub returns-clause-told : goal.returns-clause-told
+returns-clause-told g c = (c.store.ensures.2.2 c.args.slot (c.node-word.ensures ∙ ap (λ z. node_at z c.args.slot) c.args.pass.now.sizes_are)).1

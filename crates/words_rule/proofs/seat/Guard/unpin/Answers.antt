@@ -8,7 +8,7 @@ pub fetch_sub-requires : goal.fetch_sub-requires
 fetch_sub-requires g c = let is = (c.count-word.ensures ∙ ap (λ z. count_at z c.args.slot) c.args.pass.now.sizes_are) in (search rules, (let w = c.args.pass.now.words_are in let s = ap (λ i. i.words) c.requires.own.0 in let l = c.requires.within in omega (arith, w, s, l, is)), unpins_slot g.S.Content.board g.S.Content.free_slots g.S.Content.memo _ _ c.args.pass.now.seat.me c.requires.own.1 _ c.args.slot c.requires.pinned.0 is c.requires.within c.requires.hold c.requires.pinned.1)
 
 pub invariant_of-pass : goal.invariant_of-pass
-invariant_of-pass g c = let p = c.args.pass.now in let d : c.fetch_sub.new.seat.me.0.draws ≡ p.seat.me.0.draws = ap (λ m. m.0.draws) c.fetch_sub.ensures.2 in record {
+invariant_of-pass g c = let p = c.args.pass.now in let d : c.fetch_sub.new.seat.me.0.draws ≡ p.seat.me.0.draws = ap (λ m. m.0.draws) (c.fetch_sub.ensures.2 c.args.slot (c.count-word.ensures ∙ ap (λ z. count_at z c.args.slot) c.args.pass.now.sizes_are)) in record {
   number_is = keeps_number p.number p.seat.me.0.draws c.fetch_sub.new.seat.me.0.draws d p.number_is;
   sizes_are = keeps_sizes p.sizes p.seat.me.0.draws c.fetch_sub.new.seat.me.0.draws d p.sizes_are;
   heads_are = p.heads_are;
@@ -16,7 +16,7 @@ invariant_of-pass g c = let p = c.args.pass.now in let d : c.fetch_sub.new.seat.
 }
 
 pub returns-clause-own : goal.returns-clause-own
-returns-clause-own g c = (c.fetch_sub.ensures.0 ∙ c.requires.own.0, ap (λ m. m.1) c.fetch_sub.ensures.2)
+returns-clause-own g c = (c.fetch_sub.ensures.0 ∙ c.requires.own.0, ap (λ m. m.1) (c.fetch_sub.ensures.2 c.args.slot (c.count-word.ensures ∙ ap (λ z. count_at z c.args.slot) c.args.pass.now.sizes_are)))
 
 pub returns-clause-unpinned : goal.returns-clause-unpinned
-returns-clause-unpinned g c = ap (λ m. m.0) c.fetch_sub.ensures.2
+returns-clause-unpinned g c = ap (λ m. m.0) (c.fetch_sub.ensures.2 c.args.slot (c.count-word.ensures ∙ ap (λ z. count_at z c.args.slot) c.args.pass.now.sizes_are))
