@@ -11,7 +11,6 @@ use Rattle.computed_cache.specs.Entries.{kept_at, places as answer_places}
 use Rattle.edge_bits.specs.declared.words.Word.{Word}
 use Rattle.function_laws.specs.EntryOrders.{opening_orders}
 use Rattle.function_laws.specs.SiftedOrders.{place_of}
-use Rattle.handle_count.specs.CountWords.{count_of}
 use Rattle.node_store.specs.Changes.{put_at}
 use Rattle.words_rule.specs.declared.cell.Cell.{Cell}
 use Rattle.words_rule.specs.declared.view.Opening.{Opening}

@@ -1,12 +1,10 @@
 -- The part of a table that was made for one session: a seat stores a word and notes it, a session gets a seat, a seat is joined, and a table opens.
-use Rattle.std.proofs.Common.{◌≡◌, ◌≢◌, ◌⊎◌, inl, inr, ⊎_elim, ℕ, zero, suc, ◌+◌, ◌<◌, ◌≤◌, ◌==◌, Bool, true, false, cond, List, [], ◌∷◌, ◌++◌, map, set, refl, ap, sym, subst, ◌∙◌, arith, true≢false, eq-eqb, ne_eqb}
+use Rattle.std.proofs.Common.{◌≡◌, ◌≢◌, ◌⊎◌, inl, inr, ⊎_elim, ℕ, zero, suc, ◌+◌, ◌<◌, Bool, true, false, cond, List, [], ◌∷◌, ◌++◌, map, set, refl, ap, sym, subst, ◌∙◌, arith, true≢false, eq-eqb, ne_eqb}
 use Rattle.std.specs.Prelude as std
 use Rattle.std.specs.Prelude.{None, Some}
 use Rattle.std.proofs.lemmas.Bool.{cases_eq, cases_lt}
 use Rattle.std.proofs.lemmas.List.{map-append}
-use mathlib.Core.Logic.{dite}
 use mathlib.Core.Option.{Option, none, some, some-injective, some-ne-none}
-use native.Mathlib.Decide.{ℕ_discrete}
 use lib.ListN.{get_elem?}
 use lib.Seq.{map-set}
 use Rattle.atomic_table.proofs.Lists.{at_map}
@@ -25,8 +23,8 @@ use Rattle.words_rule.specs.declared.view.Opening.{Opening}
 use Rattle.words_rule.specs.declared.view.Stored.{Stored}
 use Rattle.words_rule.specs.declared.view.StoredWord.{StoredWord}
 use Rattle.words_rule.specs.declared.view.View.{View}
-use Rattle.words_rule.specs.Views.{blank, nothing_stored, one_more, session_of, sizes_for, with_gone}
-use Rattle.words_rule.specs.Layout.{Shape, Words, content_of, entry_at, places}
+use Rattle.words_rule.specs.Views.{blank, one_more, session_of, sizes_for, with_gone}
+use Rattle.words_rule.specs.Layout.{Shape, Words, content_of, entry_at}
 use Rattle.words_rule.specs.Journal.{Journal}
 use Rattle.words_rule.specs.Phase.{Phase, footing_of}
 use Rattle.words_rule.specs.Tallies.{Counted, tally_of}

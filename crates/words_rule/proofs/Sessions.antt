@@ -8,7 +8,7 @@ use mathlib.Core.List.{map-append}
 use native.Mathlib.Decide.{ℕ_discrete}
 use lib.ListN.{get_elem?}
 use lib.Seq.{map-set}
-use Rattle.atomic_table.specs.Table.{Splits, Joins}
+use Rattle.atomic_table.specs.Table.{Splits}
 use Rattle.atomic_table.proofs.Lists.{at_map, set_else, set_again, at_longer}
 use Rattle.handle_count.specs.CountWords.{count_of}
 use Rattle.function_laws.specs.declared.history.Function.{Function}

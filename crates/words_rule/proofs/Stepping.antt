@@ -1,21 +1,20 @@
--- Steps on the phase word and on the count words, and whole steps of the table.
-use Rattle.std.proofs.Common.{◌≡◌, ◌≢◌, ◌⊎◌, ℕ, zero, suc, ◌+◌, ◌-◌, ◌%◌, ◌^◌, ◌<◌, ◌≤◌, true, cond, List, ◌∷◌, set, length, get_or, refl, ap, sym, subst, ◌∙◌, inl, inr, ⊎_elim, arith, length-set, true≢false, [], ne_eqb, ◌==◌}
+-- Steps on the phase word and on the count words, and the whole step that takes an operation share.
+use Rattle.std.proofs.Common.{◌≡◌, ◌≢◌, ◌⊎◌, ℕ, zero, suc, ◌+◌, ◌-◌, ◌%◌, ◌^◌, ◌<◌, true, cond, List, ◌∷◌, set, length, get_or, refl, ap, sym, subst, ◌∙◌, inl, inr, ⊎_elim, arith, length-set, true≢false, [], ne_eqb, ◌==◌}
 use Rattle.std.specs.Prelude as std
-use Rattle.std.specs.Prelude.{Some, None}
+use Rattle.std.specs.Prelude.{None}
 use Rattle.std.proofs.Math.Nat.{mod-eq_of_lt}
 use mathlib.Core.Logic.{dite}
 use mathlib.Core.Option.{Option, none, some, some-injective}
 use native.Mathlib.Decide.{ℕ_discrete, dec_lt}
 use lib.ListN.{get_elem?}
 use lib.Seq.{map-set}
-use Rattle.atomic_table.specs.Table.{State, Me, Step, step, keeps, Allows}
+use Rattle.atomic_table.specs.Table.{State, Me, step, keeps, Allows}
 use Rattle.atomic_table.proofs.Lists.{at_map, set_else}
 use Rattle.handle_count.specs.CountWords.{count_of, generation_of}
 use Rattle.function_laws.specs.SessionEntries.{Each, entries_of}
 use Rattle.function_laws.specs.Tables.{Sizes}
 use Rattle.function_laws.specs.EntryOrders.{opening_orders, orders_from}
 use Rattle.node_store.specs.Changes.{put_at}
-use Rattle.node_store.proofs.Rewriting.{put_at-same, put_at-other}
 use Rattle.function_laws.specs.Sizes.{Orders}
 use Rattle.words_rule.proofs.Rewrites.{parts_known}
 use Rattle.words_rule.specs.Ordered.{KnowsOrders}
@@ -31,7 +30,7 @@ use Rattle.words_rule.specs.declared.view.Draws.{Draws}
 use Rattle.words_rule.specs.declared.view.View.{View}
 use Rattle.words_rule.specs.Views.{sizes_for, orders_of, told_orders}
 use Rattle.words_rule.specs.Shapes.{shape_in}
-use Rattle.words_rule.specs.Layout.{Shape, Words, words_of, count_at, content_of}
+use Rattle.words_rule.specs.Layout.{Shape, Words, words_of, content_of}
 use Rattle.words_rule.specs.Journal.{Journal}
 use Rattle.words_rule.specs.Phase.{Phase, footing_of, on, weight, bit, with_op, with_walk, with_order, with_full, order_of, walks_of}
 use Rattle.words_rule.specs.Tallies.{Counted, Tally, tally_of, size, sessions_of, parts_of, row_count, cells_count, times, one_if, lifted}
@@ -48,9 +47,9 @@ use Rattle.words_rule.proofs.Lists.{each_set, set_at, map_at, each_map}
 use Rattle.words_rule.proofs.Retelling.{retells}
 use Rattle.words_rule.proofs.Journals.{mine}
 use Rattle.words_rule.proofs.Phases.{excludes, op_held, op_owed, op_out, walk_held, walk_owed, order_cleared, walk_out, order_claimed, full_claimed, full_held, full_cleared, small_word}
-use Rattle.words_rule.proofs.Tallying.{raises, by_row, by_cell, pays, counts_small}
+use Rattle.words_rule.proofs.Tallying.{raises, by_row, by_cell, pays}
 use Rattle.words_rule.proofs.Sifting.{steps_same, steps_quiet, stays_placed}
-use Rattle.words_rule.proofs.Layouts.{set_phase, set_count, here_count}
+use Rattle.words_rule.proofs.Layouts.{set_phase}
 use Rattle.words_rule.proofs.Draws.{frame, by_full, by_pending, one_still}
 use Rattle.words_rule.proofs.Handed.{ordered_same}
 use Rattle.node_store.specs.Contents.{Pair, view_of}

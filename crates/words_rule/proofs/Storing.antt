@@ -1,5 +1,5 @@
--- The store of a node or a leaf that also notes its word and what it denotes; the step of a head by what is noted.
-use Rattle.std.proofs.Common.{◌≡◌, ◌≢◌, ℕ, suc, ◌<◌, ◌==◌, true, false, List, ◌∷◌, set, refl, ap, sym, subst, ◌∙◌}
+-- What a seat notes of a slot, and the step of a head by what is noted.
+use Rattle.std.proofs.Common.{◌≡◌, ℕ, suc, ◌==◌, true, false, List, ◌∷◌, set, refl, ap, sym, subst, ◌∙◌}
 use Rattle.std.specs.Prelude as std
 use Rattle.std.specs.Prelude.{Some, None}
 use mathlib.Core.Logic.{dite}
@@ -7,40 +7,28 @@ use mathlib.Core.Option.{Option, none, some, some-injective}
 use native.Mathlib.Decide.{ℕ_discrete}
 use lib.ListN.{get_elem?}
 use prog.Atomic.{either}
-use Rattle.atomic_table.specs.Table.{State, Me, Step, step, keeps, Allows}
+use Rattle.atomic_table.specs.Table.{State, Me, step, Allows}
 use Rattle.atomic_table.proofs.Lists.{set_else}
-use Rattle.edge_bits.specs.Words.{unpack_of}
 use Rattle.function_laws.specs.declared.history.Function.{Function}
-use Rattle.function_laws.specs.Kinds.{Denoted}
-use Rattle.function_laws.specs.SessionEntries.{Each}
 use Rattle.function_laws.specs.EntryOrders.{opening_orders, orders_from}
 use Rattle.node_store.specs.Changes.{put_at}
-use Rattle.node_store.proofs.Rewriting.{put_at-same}
 use Rattle.words_rule.specs.Ordered.{KnowsOrders}
 use Rattle.words_rule.specs.declared.cell.Cell.{Cell}
 use Rattle.words_rule.specs.declared.view.Held.{Held}
 use Rattle.words_rule.specs.declared.view.SeenWord.{SeenWord}
 use Rattle.words_rule.specs.declared.view.Hold.TheVariants.{Holding}
-use Rattle.words_rule.specs.declared.view.Job.{Job}
 use Rattle.words_rule.specs.declared.view.View.{View}
 use Rattle.words_rule.specs.Views.{sizes_for, orders_of, told_orders}
 use Rattle.words_rule.specs.Shapes.{shape_in}
-use Rattle.words_rule.specs.Layout.{Shape, Words, words_of, node_at, head_at, head_of, content_of}
-use Rattle.words_rule.specs.Kept.{IsHeldBy, whole_of}
-use Rattle.words_rule.specs.Dues.{slot_of, word_of, job_function}
-use Rattle.words_rule.specs.Hands.{storing}
+use Rattle.words_rule.specs.Layout.{Shape, Words, words_of, head_at, head_of}
+use Rattle.words_rule.specs.Kept.{IsHeldBy}
 use Rattle.words_rule.specs.Plays.{pushed}
 use Rattle.words_rule.specs.Seen.{HasShare, StandsSo}
 use Rattle.words_rule.specs.Rule.{Parts, Rule}
-use Rattle.words_rule.proofs.Layouts.{set_node}
 use Rattle.words_rule.proofs.Lists.{each_set, each_at, set_at}
-use Rattle.words_rule.proofs.Jobs.{function_here}
-use Rattle.words_rule.proofs.Handling.{never as no_some}
 use Rattle.words_rule.proofs.Draws.{by_full, by_pending}
-use Rattle.words_rule.proofs.Handed.{handed, parts_store, stored_function}
 use Rattle.words_rule.proofs.Rewrites.{parts_known}
-use Rattle.words_rule.proofs.Stepping.{shape_is}
-use Rattle.words_rule.proofs.Tabling.{set_set, after_word, pushes_slot, pushed_it}
+use Rattle.words_rule.proofs.Tabling.{pushes_slot, pushed_it}
 use Rattle.free_list.specs.FreeSlots.{FreeSlots}
 
 -- a view with a word and a function more

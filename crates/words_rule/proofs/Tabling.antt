@@ -1,5 +1,5 @@
--- Whole steps of the table: turns and the free list are taken and put back; a node, a next word and a head are stored; a head is loaded.
-use Rattle.std.proofs.Common.{◌≡◌, ◌≢◌, ◌⊎◌, ℕ, zero, suc, ◌<◌, ◌==◌, Bool, true, false, List, [], ◌∷◌, ◌++◌, set, length, get_or, refl, sym, subst, ap, ◌∙◌, arith, length-set, true≢false, eq-eqb, ne_eqb}
+-- Whole steps of the table: turns and the free list are taken and put back; a next word and a head are stored.
+use Rattle.std.proofs.Common.{◌≡◌, ◌≢◌, ◌⊎◌, ℕ, zero, suc, ◌<◌, ◌==◌, true, false, List, [], ◌∷◌, ◌++◌, set, length, get_or, refl, sym, subst, ap, ◌∙◌, arith, length-set, true≢false, eq-eqb, ne_eqb}
 use Rattle.std.specs.Prelude as std
 use Rattle.std.specs.Prelude.{Some, None}
 use mathlib.Core.Logic.{dite}
@@ -10,32 +10,29 @@ use lib.Seq.{set-get_or}
 use prog.Atomic.{either}
 use Rattle.atomic_table.specs.Table.{State, Me, Step, step, keeps, takes, gives, rest, stepped, Allows}
 use Rattle.atomic_table.proofs.Lists.{set_else, set_here, set_again}
-use Rattle.edge_bits.specs.Words.{unpack_of}
-use Rattle.function_laws.specs.SessionEntries.{Each}
 use Rattle.node_store.specs.Changes.{put_at}
 use Rattle.words_rule.specs.declared.cell.Cell.{Cell}
 use Rattle.words_rule.specs.declared.view.Held.{Held}
-use Rattle.words_rule.specs.declared.view.SeenWord.{SeenWord}
 use Rattle.words_rule.specs.declared.view.Share.TheVariants as shares
 use Rattle.words_rule.specs.declared.view.Hold.{Hold}
-use Rattle.words_rule.specs.declared.view.Hold.TheVariants.{Free, Claimed, Holding}
+use Rattle.words_rule.specs.declared.view.Hold.TheVariants.{Holding}
 use Rattle.words_rule.specs.declared.view.Job.{Job}
 use Rattle.words_rule.specs.declared.view.Walk.{Walk}
 use Rattle.words_rule.specs.declared.view.Hand.{Hand}
 use Rattle.words_rule.specs.declared.view.View.{View}
 use Rattle.words_rule.specs.Shapes.{shape_in}
-use Rattle.words_rule.specs.Layout.{Shape, Words, levels, heads, head_of, words_of, turn_at, node_at, next_at, head_at, content_of}
+use Rattle.words_rule.specs.Layout.{Shape, Words, levels, head_of, words_of, turn_at, next_at, head_at, content_of}
 use Rattle.words_rule.specs.Dues.{slot_of, word_of, IsToDo}
-use Rattle.words_rule.specs.Hands.{level_of, HasLevel, Owns, Tables, taking, with_level, without_level, storing, linking, pushing}
+use Rattle.words_rule.specs.Hands.{level_of, HasLevel, Owns, Tables, taking, with_level, without_level, linking, pushing}
 use Rattle.words_rule.specs.OneSession.{OneSession, storer_of}
 use Rattle.words_rule.specs.Rule.{Parts, Rule, hands_in, storers_in}
 use Rattle.words_rule.proofs.Draws.{one_still}
-use Rattle.words_rule.proofs.Layouts.{set_free_turn, set_turn, set_node, set_next, set_head, here_turn, here_next, here_head}
+use Rattle.words_rule.proofs.Layouts.{set_free_turn, set_turn, set_next, set_head, here_turn, here_next, here_head}
 use Rattle.words_rule.proofs.Handling.{never as no_some, hands_it, takes_level, puts_level, takes_free, puts_free, puts_back}
 use Rattle.words_rule.proofs.Linking.{hand_links, head_within, next_is}
 use Rattle.words_rule.specs.Chains.{Along}
 use Rattle.words_rule.proofs.Lists.{set_at}
-use Rattle.words_rule.proofs.Handed.{handed, parts_hand, remembered_here, seen_here, hand_at, parts_store, parts_link, parts_push, parts_walk}
+use Rattle.words_rule.proofs.Handed.{handed, parts_hand, remembered_here, seen_here, hand_at, parts_link, parts_push}
 use Rattle.words_rule.proofs.Stepping.{shape_is}
 use Rattle.free_list.specs.FreeSlots.{FreeSlots}
 

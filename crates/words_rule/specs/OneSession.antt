@@ -62,7 +62,7 @@ pub record Storer : Type 0 where
 abbrev pub storer_of : View → Storer
 storer_of v = record { live = v.draws.live; closing = v.draws.closing; session = v.draws.session; sessions = v.draws.sessions; given = v.draws.given; stored = v.stored }
 
--- All views tell how many sessions the table was made for, and no session has a greater number. Where it is one, the words are those that its seat's view tells from its split until it is joined; and before the split they are the opening ones.
+-- All views tell how many sessions the table was made for, and the number of each session is below that. Where it is one, the words are those that its seat's view tells from its split until it is joined; and before the split they are the opening ones.
 pub record OneSession (z : Shape) (order node count : ℕ → ℕ) (xs : List Storer) : Type 0 where
   pub sessions : ℕ
   pub known : (id : ℕ) (x : Storer) → get_elem? xs id ≡ some x → (x.live ≡ true) ⊎ (x.closing ≡ true) → x.sessions ≡ sessions
@@ -76,6 +76,6 @@ pub record IsTold (z : Shape) (l : Stored) (word n : ℕ) : Type 0 where
   pub count : (k : ℕ) → k < z.slots → word ≡ count_at z k → n ≡ count_by l k
 
 module _ {S : Type 0} where
-  -- so is what a step of a live seat finds
+  -- what a step of a live seat finds is so, where the table was made for one session
   abbrev pub TellsOne : Step S → Me S View → ℕ → Type 0
   TellsOne st m n = m.0.draws.sessions ≡ 1 → IsTold (shape_in m.0.draws) m.0.stored st.word n
