@@ -4,5 +4,5 @@
 set -e
 root=$(cd "$(dirname "$0")/.." && pwd)
 times=$root/crates/hold_times
-[ -x "$times/out/hold_times" ] || (cd "$times" && rt run -- 0 2 0 0 1 0 0 > /dev/null)
+[ -x "$times/out/hold_times" ] || (cd "$times" && rt run -- 0 100 2 0 0 0 1 0 0 > /dev/null)
 exec python3 "$root/bench/holds.py" "$times/out/hold_times"

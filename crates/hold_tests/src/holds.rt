@@ -3,9 +3,9 @@
 ghost use Rattle.std.specs.Prelude.{◌≡◌};
 ghost use Rattle.group_sift.specs.Sifts.{IsIdle};
 ghost use Rattle.group_sift.specs.Turns.{last_end};
-ghost use Rattle.hold_tests.specs.Rests.{IsAtRest};
+ghost use Rattle.hold_calls.specs.Rests.{IsAtRest};
 
-use dead_sweep::{Swept, sweep};
+use dead_sweep::sweep;
 use edge_bits::FIRST_ELEMENT;
 use group_sift::{Blocks, Sifted, sift, sift_e};
 use hold_store::{HolderRoom, Holding, Holds};
@@ -14,6 +14,13 @@ use node_store::{Order, Whole};
 use std::process::Abort;
 use std::sync::Wait;
 use step_store::Home;
+
+/// A swap as on the way of a sift, or as on its way back, which asks for less room.
+#[derive(Clone, Copy, Drop)]
+pub enum Way {
+    There,
+    Back,
+}
 
 /// What a swap between two sweeps is told: the slots in use after either, and the need.
 #[derive(Debug, Clone, Copy, PartialEq, Eq, Drop)]
@@ -47,7 +54,7 @@ fn four_of<W: Whole>(rt: &impl Abort, w: &mut W, order: Order) -> [u32; 4]
 }
 
 /// Swaps the second level of an order and the third, which stand between two sweeps.
-fn swap_swept<W: Whole>(rt: &impl Abort, w: &mut W, order: Order) -> Told
+fn swap_swept<W: Whole>(rt: &impl Abort, w: &mut W, order: Order, way: Way) -> Told
     requires { IsIdle (W.view w.old) }
     ensures { IsIdle (W.view w.new) }
 {
@@ -59,29 +66,10 @@ fn swap_swept<W: Whole>(rt: &impl Abort, w: &mut W, order: Order) -> Told
     if w.room() < need {
         panic!(rt; "no room for a swap");
     }
-    swap_of(w, order, 1);
-    let after = sweep(w).in_use;
-    Told {
-        before,
-        need,
-        after,
+    match way {
+        Way::There => swap_of(w, order, 1),
+        Way::Back => swap_back_of(w, order, 1),
     }
-}
-
-/// The same by a swap as on the way back of a sift, which asks for less room.
-fn swap_back_swept<W: Whole>(rt: &impl Abort, w: &mut W, order: Order) -> Told
-    requires { IsIdle (W.view w.old) }
-    ensures { IsIdle (W.view w.new) }
-{
-    let before = sweep(w).in_use;
-    if w.levels_of(order) < 3 {
-        panic!(rt; "no third level");
-    }
-    let need = need_of(w, order, 1);
-    if w.room() < need {
-        panic!(rt; "no room for a swap");
-    }
-    swap_back_of(w, order, 1);
     let after = sweep(w).in_use;
     Told {
         before,
@@ -106,31 +94,13 @@ fn sift_four<W: Whole>(rt: &impl Abort, w: &mut W, order: Order, blocks: &mut Bl
     }
 }
 
-/// A sweep.
-pub fn swept<R: Wait, S: Holds, E: Home<S::Rest>>(
-    rt: &R,
-    seat: S,
-    room: HolderRoom,
-) -> (S, HolderRoom, Swept)
-    requires own { S.holds seat }
-    requires home { (S.table seat ≡ E.number) × (S.rest seat ≡ E.rest) }
-    requires rest { IsAtRest (S.known seat) room }
-    ensures own { S.holds result.0 }
-    ensures home { (S.table result.0 ≡ E.number) × (S.rest result.0 ≡ E.rest) }
-    ensures rest { IsAtRest (S.known result.0) result.1 }
-{
-    let mut held: Holding<'_, R, S, E> = Holding::new(rt, seat, room);
-    let swept = sweep(&mut held);
-    let (seat, room) = held.into_seat();
-    (seat, room, swept)
-}
-
 /// A swap of the second level and the third, with what it is told, and the first four of the order that it leaves.
 pub fn swapped<R: Wait + Abort, S: Holds, E: Home<S::Rest>>(
     rt: &R,
     seat: S,
     room: HolderRoom,
     order: Order,
+    way: Way,
 ) -> (S, HolderRoom, Told, [u32; 4])
     requires own { S.holds seat }
     requires home { (S.table seat ≡ E.number) × (S.rest seat ≡ E.rest) }
@@ -140,28 +110,7 @@ pub fn swapped<R: Wait + Abort, S: Holds, E: Home<S::Rest>>(
     ensures rest { IsAtRest (S.known result.0) result.1 }
 {
     let mut held: Holding<'_, R, S, E> = Holding::new(rt, seat, room);
-    let told = swap_swept(rt, &mut held, order);
-    let four = four_of(rt, &mut held, order);
-    let (seat, room) = held.into_seat();
-    (seat, room, told, four)
-}
-
-/// The same by a swap as on the way back of a sift.
-pub fn swapped_back<R: Wait + Abort, S: Holds, E: Home<S::Rest>>(
-    rt: &R,
-    seat: S,
-    room: HolderRoom,
-    order: Order,
-) -> (S, HolderRoom, Told, [u32; 4])
-    requires own { S.holds seat }
-    requires home { (S.table seat ≡ E.number) × (S.rest seat ≡ E.rest) }
-    requires rest { IsAtRest (S.known seat) room }
-    ensures own { S.holds result.0 }
-    ensures home { (S.table result.0 ≡ E.number) × (S.rest result.0 ≡ E.rest) }
-    ensures rest { IsAtRest (S.known result.0) result.1 }
-{
-    let mut held: Holding<'_, R, S, E> = Holding::new(rt, seat, room);
-    let told = swap_back_swept(rt, &mut held, order);
+    let told = swap_swept(rt, &mut held, order, way);
     let four = four_of(rt, &mut held, order);
     let (seat, room) = held.into_seat();
     (seat, room, told, four)

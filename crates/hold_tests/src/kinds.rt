@@ -6,7 +6,7 @@ ghost use Rattle.node_slots.specs.Stores.{plain_view};
 use crate::diagrams::{
     counted_family, counted_function, counted_numbers, has_numbers, has_pairs, has_unions,
 };
-use crate::holds::{Told, sifted, swapped, swapped_back};
+use crate::holds::{Told, Way, sifted, swapped};
 use crate::tables::{Here, opened};
 use edge_bits::Edge;
 use group_sift::{Blocks, Sifted};
@@ -84,6 +84,7 @@ fn all_kinds_are_swapped(rt: HostRuntime) -> Result<(), Fail> {
         table,
         room,
         Order::Variables,
+        Way::There,
     );
     assert!(&rt; told == THERE[0] && order == [0, 2, 1, 3]);
     let (table, room, told, order) = swapped::<HostRuntime, HeldTable, Here>(
@@ -91,21 +92,24 @@ fn all_kinds_are_swapped(rt: HostRuntime) -> Result<(), Fail> {
         table,
         room,
         Order::Elements,
+        Way::There,
     );
     assert!(&rt; told == THERE[1] && order == [0, 2, 1, 3]);
     have_values(&rt, table.words(), three);
-    let (table, room, told, order) = swapped_back::<HostRuntime, HeldTable, Here>(
+    let (table, room, told, order) = swapped::<HostRuntime, HeldTable, Here>(
         &rt,
         table,
         room,
         Order::Elements,
+        Way::Back,
     );
     assert!(&rt; told == BACK[0] && order == [0, 1, 2, 3]);
-    let (table, _room, told, order) = swapped_back::<HostRuntime, HeldTable, Here>(
+    let (table, _room, told, order) = swapped::<HostRuntime, HeldTable, Here>(
         &rt,
         table,
         room,
         Order::Variables,
+        Way::Back,
     );
     assert!(&rt; told == BACK[1] && order == [0, 1, 2, 3]);
     have_values(&rt, table.words(), three);

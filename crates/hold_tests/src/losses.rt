@@ -1,11 +1,12 @@
 //! What a holder frees and keeps while another gives up what holds a function, at each of the holder's loads of its count.
 
 use crate::diagrams::{counted_function, has_pairs};
-use crate::holds::{sifted, swept};
+use crate::holds::sifted;
 use crate::lowering::Lowering;
 use crate::tables::{Here, opened};
 use edge_bits::Edge;
 use group_sift::{Blocks, Sifted};
+use hold_calls::swept;
 use node_slots::PlainStore;
 use node_store::Order;
 use std::alloc::Global;

@@ -1,7 +1,7 @@
 //! Swaps of neighbouring levels by single steps: what is in use, the order, and that functions stay.
 
 use crate::diagrams::{counted_family, counted_function, has_pairs, has_unions};
-use crate::holds::{Told, swapped, swapped_back};
+use crate::holds::{Told, Way, swapped};
 use crate::tables::{Here, opened};
 use held_table::HeldTable;
 use node_slots::PlainStore;
@@ -23,6 +23,7 @@ fn a_function_of_pairs_is_swapped_and_swapped_back(rt: HostRuntime) -> Result<()
         table,
         room,
         Order::Variables,
+        Way::There,
     );
     assert!(&rt; told == there && order == [0, 2, 1, 3]);
     has_pairs(&rt, table.words(), edge);
@@ -31,11 +32,12 @@ fn a_function_of_pairs_is_swapped_and_swapped_back(rt: HostRuntime) -> Result<()
         need: 6,
         after: 13,
     };
-    let (table, _room, told, order) = swapped_back::<HostRuntime, HeldTable, Here>(
+    let (table, _room, told, order) = swapped::<HostRuntime, HeldTable, Here>(
         &rt,
         table,
         room,
         Order::Variables,
+        Way::Back,
     );
     assert!(&rt; told == back && order == [0, 1, 2, 3]);
     has_pairs(&rt, table.words(), edge);
@@ -58,6 +60,7 @@ fn a_family_of_unions_is_swapped_and_swapped_back(rt: HostRuntime) -> Result<(),
         table,
         room,
         Order::Elements,
+        Way::There,
     );
     assert!(&rt; told == there && order == [0, 2, 1, 3]);
     has_unions(&rt, table.words(), edge);
@@ -66,11 +69,12 @@ fn a_family_of_unions_is_swapped_and_swapped_back(rt: HostRuntime) -> Result<(),
         need: 3,
         after: 11,
     };
-    let (table, _room, told, order) = swapped_back::<HostRuntime, HeldTable, Here>(
+    let (table, _room, told, order) = swapped::<HostRuntime, HeldTable, Here>(
         &rt,
         table,
         room,
         Order::Elements,
+        Way::Back,
     );
     assert!(&rt; told == back && order == [0, 1, 2, 3]);
     has_unions(&rt, table.words(), edge);

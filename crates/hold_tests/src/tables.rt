@@ -2,7 +2,7 @@
 
 ghost use Rattle.std.specs.Prelude.{◌≡◌, IfOk};
 ghost use Rattle.held_table.specs.Tables.{IsTable, known_of};
-ghost use Rattle.hold_tests.specs.Rests.{IsAtRest};
+ghost use Rattle.hold_calls.specs.Rests.{IsAtRest};
 
 use edge_bits::Memory;
 use held_table::HeldTable;

@@ -6,6 +6,7 @@ use Rattle.function_laws.proofs.CoverLaws.{neither}
 use Rattle.group_sift.specs.Sifts.{IsIdle}
 use Rattle.node_store.specs.Contents.{Content}
 use Rattle.node_slots.specs.Stores.{IsOpening, Plain, is_held}
+use Rattle.node_slots.specs.Held.{Held, held_view}
 use Rattle.node_slots.specs.Wholes.{content_view}
 
 none_set : (n : ℕ) → list_any (λ bits. bits == 1) (replicate n 0) ≡ false
@@ -32,3 +33,11 @@ handed_idle p w same idle = record {
 pub stays_idle : (made : Option Plain) (held : Bool) → IfSome made (λ p. is_held p ≡ held) → held ≡ false → IfSome made (λ p. is_held p ≡ false)
 stays_idle (Some p) held is none = is ∙ none
 stays_idle None held is none = is
+
+none_any : (pins : List ℕ) → ((s : ℕ) → (get_or pins s 0 == 1) ≡ false) → list_any (λ bits. bits == 1) pins ≡ false
+none_any [] none = refl
+none_any (x ∷ pins) none = ap₂ (λ (a b : Bool). a || b) (none 0) (none_any pins (λ s. none (suc s)))
+
+-- a holder that is idle leaves it so
+pub left_idle : (h : Held) → IsIdle (held_view h) → is_held h.plain ≡ false
+left_idle h idle = ap₂ (λ (a b : Bool). a || b) idle.sweeping (none_any h.plain.pins idle.unpinned)

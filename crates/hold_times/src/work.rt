@@ -21,11 +21,22 @@ pub struct Tasks {
 }
 
 /// How many slots are in use at last, how many the sweeps freed, and how many swaps were made, those of sifts among them.
-#[derive(Clone, Copy, Drop)]
+#[derive(Clone, Copy, Default, Drop)]
 pub struct Done {
     pub in_use: u32,
     pub freed: u32,
     pub swaps: u64,
+}
+
+impl Done {
+    /// What was done before and behind.
+    pub fn and(self, behind: Done) -> Done {
+        Done {
+            in_use: behind.in_use,
+            freed: self.freed.saturating_add(behind.freed),
+            swaps: self.swaps.saturating_add(behind.swaps),
+        }
+    }
 }
 
 /// Sweeps so many times, and tells how many slots were freed.
@@ -75,7 +86,8 @@ fn swaps<W: Whole>(w: &mut W, level: u32, times: u32) -> u64
 fn sifts<W: Whole>(w: &mut W, blocks: &mut Blocks, end: u32, times: u32) -> u64
     requires idle { IsIdle (W.view w.old) }
     requires end { last_end 0 blocks.old ≡ end }
-    ensures { IsIdle (W.view w.new) }
+    ensures idle { IsIdle (W.view w.new) }
+    ensures end { last_end 0 blocks.new ≡ end }
 {
     let mut made = 0u64;
     for _ in 0..times {
@@ -91,7 +103,8 @@ fn sifts<W: Whole>(w: &mut W, blocks: &mut Blocks, end: u32, times: u32) -> u64
 pub fn work<W: Whole>(w: &mut W, blocks: &mut Blocks, end: u32, tasks: Tasks) -> Done
     requires idle { IsIdle (W.view w.old) }
     requires end { last_end 0 blocks.old ≡ end }
-    ensures { IsIdle (W.view w.new) }
+    ensures idle { IsIdle (W.view w.new) }
+    ensures end { last_end 0 blocks.new ≡ end }
 {
     let freed = sweeps(w, tasks.sweeps);
     let swapped = swaps(w, tasks.level, tasks.swaps);
