@@ -1,13 +1,15 @@
-//! Asks a store for what is to be timed from outside, and tells what came of it: once of a `PlainStore`, and once of a table of words by the
-//! single steps of its seat.
+//! Asks a store for what is to be timed from outside, and tells what came of it: of a `PlainStore`, and of tables of words by the single steps
+//! of their seats, one with one user and one that sessions share.
 //!
-//! The seven words are numbers: STEPS, VARS, PAIRS, LEAVES, LEVELS, NODES and ROUNDS. Where STEPS is 0 it works over a `PlainStore`, else by
-//! steps. It makes the function x0 xK + x1 x(K+1) + .. of the first 2 PAIRS of VARS variables, and asks ROUNDS times for the leaves of the first LEAVES
-//! numbers, and for NODES nodes at LEVELS of the variables.
+//! The eight words are numbers: STEPS, VARS, PAIRS, LEAVES, LEVELS, NODES, HITS and ROUNDS. Where STEPS is 0 it works over a `PlainStore`,
+//! where it is 1 at a `PlainTable`, else at a table that sessions share. It makes the function x0 xK + x1 x(K+1) + .. of the first 2 PAIRS of
+//! VARS variables, and asks ROUNDS times for the leaves of the first LEAVES numbers, for NODES nodes at LEVELS of the variables, and HITS times
+//! for one of the conjunctions x0 xK, x1 x(K+1), ..
 #![tactic(auto)]
 
 ghost use Rattle.std.specs.Prelude.{◌≡◌, ◌*◌, ◌≤◌, IfOk, IfSome};
 
+mod words;
 mod work;
 
 use node_slots::PlainStore;
@@ -15,6 +17,7 @@ use std::alloc::Global;
 use std::sync::Wait;
 use std::{env, io};
 use step_store::{Growing, PlainTable};
+use words::at_words;
 use work::{Done, Here, Tasks, work};
 
 /// The greatest number of pairs, for which the function has 131,070 nodes.
@@ -45,7 +48,7 @@ fn asked(rt: &HostRuntime) -> io::Result<Option<Request>>
         }
     }
     Ok(match numbers.as_slice() {
-        [steps, vars, pairs, leaves, levels, nodes, rounds]
+        [steps, vars, pairs, leaves, levels, nodes, hits, rounds]
             if *vars <= MOST_VARS && *pairs <= MOST_PAIRS && 2 * *pairs <= *vars => {
             Some(Request {
                 steps: *steps,
@@ -55,6 +58,7 @@ fn asked(rt: &HostRuntime) -> io::Result<Option<Request>>
                     leaves: *leaves,
                     levels: *levels,
                     nodes: *nodes,
+                    hits: *hits,
                     rounds: *rounds,
                 },
             })
@@ -87,13 +91,13 @@ fn by_steps<R: Wait>(rt: &R, alloc: Global, request: Request) -> Option<Done>
 fn main(rt: HostRuntime) -> io::Result<()> {
     let Some(request) = asked(&rt)? else {
         return println!(&rt;
-            "usage: STEPS VARS PAIRS LEAVES LEVELS NODES ROUNDS, PAIRS at most 16, VARS at most 1024"
+            "usage: STEPS VARS PAIRS LEAVES LEVELS NODES HITS ROUNDS, PAIRS at most 16, VARS at most 1024"
         );
     };
-    let done = if request.steps == 0 {
-        over_store(rt.alloc(), request)
-    } else {
-        by_steps(&rt, rt.alloc(), request)
+    let done = match request.steps {
+        0 => over_store(rt.alloc(), request),
+        1 => by_steps(&rt, rt.alloc(), request),
+        _ => at_words(&rt, rt.alloc(), request.vars, SLOTS, request.tasks),
     };
     match done {
         Some(
@@ -101,8 +105,9 @@ fn main(rt: HostRuntime) -> io::Result<()> {
                 pairs,
                 leaves,
                 nodes,
+                hits,
             },
-        ) => println!(&rt; "pairs {pairs}, leaves {leaves}, nodes {nodes}"),
+        ) => println!(&rt; "pairs {pairs}, leaves {leaves}, nodes {nodes}, hits {hits}"),
         None => println!(&rt; "no memory"),
     }
 }

@@ -20,23 +20,25 @@ impl Home<bool> for Here {
     ghost rest = { false };
 }
 
-/// What is asked of a store: a function of so many pairs of variables, so many leaves, and so many nodes over so many levels, which lie evenly among
-/// all. Leaves and nodes are asked for in so many rounds.
+/// What is asked of a store: a function of so many pairs of variables, so many leaves, so many nodes over so many levels, which lie evenly among
+/// all, and so often the conjunctions of the pairs once more. All but the function is asked for in so many rounds.
 #[derive(Clone, Copy, Drop)]
 pub struct Tasks {
     pub pairs: u32,
     pub leaves: u32,
     pub levels: u32,
     pub nodes: u32,
+    pub hits: u32,
     pub rounds: u32,
 }
 
-/// Whether the function of pairs was made, and how many leaves and nodes were there at the last round.
+/// Whether the function of pairs was made, and how many leaves, nodes and conjunctions were there at the last round.
 #[derive(Clone, Copy, Drop)]
 pub struct Done {
     pub pairs: bool,
     pub leaves: u32,
     pub nodes: u32,
+    pub hits: u32,
 }
 
 /// The conjunction of two variables.
@@ -66,6 +68,7 @@ fn function_of_pairs<G: Grow>(store: &mut G, pairs: u32) -> Result<Edge, Stop>
     requires few { pairs ≤ 16 }
     requires vars { 2 * pairs ≤ (G.view store.old).vars }
     requires some { 0 < pairs }
+    ensures vars { (G.view store.new).vars ≡ (G.view store.old).vars }
 {
     let mut sum = both(store, 0, pairs)?;
     for i in 1..pairs {
@@ -75,7 +78,9 @@ fn function_of_pairs<G: Grow>(store: &mut G, pairs: u32) -> Result<Edge, Stop>
 }
 
 /// How many leaves of the first numbers are there, or had room.
-fn leaves_there<G: Grow>(store: &mut G, leaves: u32) -> u32 {
+fn leaves_there<G: Grow>(store: &mut G, leaves: u32) -> u32
+    ensures vars { (G.view store.new).vars ≡ (G.view store.old).vars }
+{
     let mut there = 0;
     for value in 0..leaves {
         if store.leaf(i64::from(value)).is_ok() {
@@ -96,7 +101,9 @@ fn node_of<G: Grow>(store: &mut G, var: u32, x: u32, y: u32) -> Result<Edge, Sto
 }
 
 /// How many nodes at so many variables are there, or had room. The variables lie evenly among all.
-fn nodes_there<G: Grow>(store: &mut G, levels: u32, nodes: u32) -> u32 {
+fn nodes_there<G: Grow>(store: &mut G, levels: u32, nodes: u32) -> u32
+    ensures vars { (G.view store.new).vars ≡ (G.view store.old).vars }
+{
     let vars = store.levels(Kind::Add);
     if levels == 0 || levels > vars || vars > MOST_VARIABLES {
         return 0;
@@ -113,7 +120,26 @@ fn nodes_there<G: Grow>(store: &mut G, levels: u32, nodes: u32) -> u32 {
     there
 }
 
-/// Makes the function of pairs, if there are any, and asks for the leaves and the nodes.
+/// How many conjunctions of the pairs are there, of so many that are asked for in turn.
+fn hits_there<G: Grow>(store: &mut G, pairs: u32, hits: u32) -> u32
+    requires few { pairs ≤ 16 }
+    requires vars { 2 * pairs ≤ (G.view store.old).vars }
+    ensures vars { (G.view store.new).vars ≡ (G.view store.old).vars }
+{
+    if pairs == 0 {
+        return 0;
+    }
+    let mut there = 0;
+    for i in 0..hits {
+        let pair = i % pairs;
+        if both(store, pair, pair + pairs).is_ok() {
+            there += 1;
+        }
+    }
+    there
+}
+
+/// Makes the function of pairs, if there are any, and asks for the leaves, the nodes and the conjunctions.
 pub fn work<G: Grow>(store: &mut G, asked: Tasks) -> Done
     requires few { asked.pairs ≤ 16 }
     requires vars { 2 * asked.pairs ≤ (G.view store.old).vars }
@@ -121,13 +147,16 @@ pub fn work<G: Grow>(store: &mut G, asked: Tasks) -> Done
     let pairs = asked.pairs > 0 && function_of_pairs(store, asked.pairs).is_ok();
     let mut leaves = 0;
     let mut nodes = 0;
+    let mut hits = 0;
     for _ in 0..asked.rounds {
         leaves = leaves_there(store, asked.leaves);
         nodes = nodes_there(store, asked.levels, asked.nodes);
+        hits = hits_there(store, asked.pairs, asked.hits);
     }
     Done {
         pairs,
         leaves,
         nodes,
+        hits,
     }
 }
