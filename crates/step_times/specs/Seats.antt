@@ -1,5 +1,5 @@
 -- A seat before its work, at it and behind it.
-use Rattle.std.specs.Prelude.{◌≡◌, ℕ, [], None}
+use Rattle.std.specs.Prelude.{◌≡◌, [], None}
 use Rattle.node_slots.specs.Stores.{lent_room}
 use Rattle.step_store.specs.Knowing.{idle}
 use Rattle.words_rule.specs.declared.seat.Guard.{Guard}

@@ -7,7 +7,7 @@
 //! for one of the conjunctions x0 xK, x1 x(K+1), ..
 #![tactic(auto)]
 
-ghost use Rattle.std.specs.Prelude.{◌≡◌, ◌*◌, ◌≤◌, IfOk, IfSome};
+ghost use Rattle.std.specs.Prelude.{◌*◌, ◌≤◌, IfOk, IfSome};
 
 mod words;
 mod work;
