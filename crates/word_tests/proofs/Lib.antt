@@ -1,3 +1,4 @@
 mod Lists
 mod Sweeping
 mod Counting
+pub mod HeldRests

@@ -6,6 +6,8 @@ mod rounds;
 #[cfg(test)]
 mod seated;
 #[cfg(test)]
+mod sweeps;
+#[cfg(test)]
 mod tokens;
 #[cfg(test)]
 mod widest;

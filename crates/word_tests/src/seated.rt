@@ -62,7 +62,7 @@ fn ask_at_home<'a, R: Wait + Abort, E: Home<Besides>>(
 }
 
 /// The same under an operation share.
-fn ask_under_share<R: Wait + Abort>(
+pub fn ask_under_share<R: Wait + Abort>(
     rt: &R,
     alloc: Global,
     guard: &Guard<TableShelf>,
@@ -70,6 +70,7 @@ fn ask_under_share<R: Wait + Abort>(
     is_last: bool,
 ) -> Pass<TableShelf>
     requires { IsReady guard.now pass }
+    ensures { IsReady guard.now result }
 {
     let share = guard.op_wait(rt, pass);
     let seat = guard.stepper(alloc, share, None);

@@ -161,8 +161,8 @@ module _ {S : Type 0} (board : S → List (std.Option Cell)) (free_slots : S →
     pub settled_by : v.shares.op ≡ shares.Held → r.half ≡ None
     settled_by held = ⊎_elim (λ none_half. none_half) (λ (y : HalfHolder r.half vs). let h = y.0 in
         let there : get_elem? (footings_in vs) h.0 ≡ some (footing_of h.1) = at_map footing_of vs h.0 h.1 h.2 in
-        let one : bit h.1.shares.full ≡ 1 = ap bit h.3 in
-        let w = r.phase.within h.0 (footing_of h.1) there in
+        let one : hold h.1.shares.full ≡ 1 = ap hold h.3 in
+        let w = (r.phase.within h.0 (footing_of h.1) there).1 in
         absurd (excludes ws.phase (footings_in vs) r.phase id h.0 (footing_of v) (footing_of h.1) (at_map footing_of vs id v at) there held (holds h.1.shares.order (omega (arith, w, one))))) r.half_by
       where
         holds : (h : Hold) → 0 < hold h → h ≡ Holding

@@ -106,8 +106,8 @@ module _ {S : Type 0} (board : S → List (std.Option Cell)) (free_slots : S →
     -- and so nobody has the full hold
     not_full : ((i : ℕ) (u : View) → get_elem? vs i ≡ some u → u.shares.order ≡ Holding → ⊥) → FullHolder vs → ⊥
     not_full nobody h =
-        let w = r.phase.within h.0 (footing_of h.1) (at_map footing_of vs h.0 h.1 h.2) in
-        let one : bit h.1.shares.full ≡ 1 = ap bit h.3 in nobody h.0 h.1 h.2 (holds h.1.shares.order (omega (arith, w, one)))
+        let w = (r.phase.within h.0 (footing_of h.1) (at_map footing_of vs h.0 h.1 h.2)).1 in
+        let one : hold h.1.shares.full ≡ 1 = ap hold h.3 in nobody h.0 h.1 h.2 (holds h.1.shares.order (omega (arith, w, one)))
       where
         holds : (h : Hold) → 0 < hold h → h ≡ Holding
         holds Holding lt = refl
@@ -158,7 +158,7 @@ module _ {S : Type 0} (board : S → List (std.Option Cell)) (free_slots : S →
         λ i u apart there other. one_order ws.phase (footings_in vs) r.phase id i (footing_of v) (footing_of u) apart (at_map footing_of vs id v at) (at_map footing_of vs i u there) holding other in
         let no_full_holder : FullHolder vs → ⊥ = λ f. dite (ℕ_discrete f.0 id)
         (λ same. never (sym no_full ∙ (ap (λ (y : View). y.shares.full) (some-injective v f.1 (sym at ∙ (ap (λ j. get_elem? vs j) (sym same) ∙ f.2))) ∙ f.3)))
-        (λ apart. let w = r.phase.within f.0 (footing_of f.1) (at_map footing_of vs f.0 f.1 f.2) in let one : bit f.1.shares.full ≡ 1 = ap bit f.3 in others f.0 f.1 apart f.2 (holds f.1.shares.order (omega (arith, w, one)))) in
+        (λ apart. let w = (r.phase.within f.0 (footing_of f.1) (at_map footing_of vs f.0 f.1 f.2)).1 in let one : hold f.1.shares.full ≡ 1 = ap hold f.3 in others f.0 f.1 apart f.2 (holds f.1.shares.order (omega (arith, w, one)))) in
         parts_any x v.known c (ws.phase - 4294967296) cleared.2
         (record {
           settled = λ _. sym h.0 ∙ told_now ∙ h.1;

@@ -84,3 +84,4 @@ pub mod OrderWords
 pub mod OrderStores
 pub mod Waits
 pub mod Steppers
+pub mod KeptShares

@@ -8,7 +8,7 @@ use Rattle.words_rule.specs.declared.view.Hold.{Hold}
 use Rattle.words_rule.specs.declared.view.Hold.TheVariants.{Free, Claimed, Holding}
 use Rattle.words_rule.specs.declared.view.Shares.{Shares}
 use Rattle.words_rule.specs.Tallies.{total}
-use Rattle.words_rule.specs.Phase.{Footing, weight, share, bit, hold, op_weight, op_share, walk_weight, walk_share, order_bit, order_hold, full_bit, full_hold, part, Phase, no_shares, with_op, with_walk, with_order, with_full, on, ops_of, walks_of, order_of, full_of}
+use Rattle.words_rule.specs.Phase.{Footing, HasBoth, weight, share, bit, hold, op_weight, op_share, walk_weight, walk_share, order_bit, order_hold, full_bit, full_hold, part, Phase, claims, no_shares, with_op, with_walk, with_order, with_full, on, ops_of, walks_of, order_of, full_of}
 use Rattle.words_rule.proofs.Lists.{each_set}
 use Rattle.words_rule.proofs.Tallying.{total-set, total-has, total-two}
 
@@ -27,12 +27,12 @@ share_weight Held = omega arith
 share_weight Owed = omega arith
 
 module _ (n : ℕ) (xs : List Footing) (r : Phase n xs) where
-  bounds : (total op_weight xs ≤ 64) × (total walk_weight xs ≤ 64) × (total full_bit xs ≤ total order_hold xs) × (total order_hold xs ≤ total order_bit xs)
+  bounds : (total op_weight xs ≤ 64) × (total walk_weight xs ≤ 64) × (total full_bit xs ≤ total order_bit xs) × (total order_hold xs ≤ total order_bit xs)
   bounds =
       let a = total_le op_weight part xs (λ i x at. (r.small i x at).0) in
       let b = total_le walk_weight part xs (λ i x at. (r.small i x at).1) in
       let m = r.most in
-      (omega (arith, a, m), omega (arith, b, m), total_le full_bit order_hold xs r.within, total_le order_hold order_bit xs (λ i x _. hold_bit x.shares.order))
+      (omega (arith, a, m), omega (arith, b, m), total_le full_bit order_bit xs (λ i x at. (r.within i x at).0), total_le order_hold order_bit xs (λ i x _. hold_bit x.shares.order))
 
   pub ops_is : ops_of n ≡ total op_weight xs
   ops_is = let b = bounds in let fields = r.fields in omega (arith, b, fields)
@@ -50,7 +50,7 @@ module _ (n : ℕ) (xs : List Footing) (r : Phase n xs) where
   pub moves : (id : ℕ) (v w : Footing) (m : ℕ) → get_elem? xs id ≡ some v → w.parts ≡ v.parts → (op_weight w ≤ v.parts) × (walk_weight w ≤ v.parts)
       → m + (op_weight v + 65536 * walk_weight v + 4294967296 * order_bit v + 8589934592 * full_bit v) ≡ n + (op_weight w + 65536 * walk_weight w + 4294967296 * order_bit w + 8589934592 * full_bit w)
       → total order_bit xs + order_bit w ≤ 1 + order_bit v
-      → full_bit w ≤ order_hold w
+      → HasBoth w
       → ((H S : ℕ) → H + order_hold v ≡ total order_hold xs + order_hold w → S + op_share v ≡ total op_share xs + op_share w → 0 < H → S ≡ 0)
       → ((F W : ℕ) → F + full_hold v ≡ total full_hold xs + full_hold w → W + walk_share v ≡ total walk_share xs + walk_share w → 0 < F → W ≡ 0)
       → Phase m (set xs id w)
@@ -68,7 +68,7 @@ module _ (n : ℕ) (xs : List Footing) (r : Phase n xs) where
         small = each_set (λ i (x : Footing). (op_weight x ≤ x.parts) × (walk_weight x ≤ x.parts)) xs id w (λ i x _ here. r.small i x here) (omega (arith, a, same), omega (arith, b, same));
         fields = omega (arith, fields, word, t1, t2, t3, t4);
         one = omega (arith, one, t3);
-        within = each_set (λ i x. full_bit x ≤ order_hold x) xs id w (λ i x _ here. r.within i x here) within;
+        within = each_set (λ i x. HasBoth x) xs id w (λ i x _ here. r.within i x here) within;
         apart = apart (total order_hold (set xs id w)) (total op_share (set xs id w)) (total-set order_hold xs id v w at) (total-set op_share xs id v w at);
         apart_full = apart_full (total full_hold (set xs id w)) (total walk_share (set xs id w)) (total-set full_hold xs id v w at) (total-set walk_share xs id v w at);
       }
@@ -143,7 +143,7 @@ module _ (n : ℕ) (xs : List Footing) (r : Phase n xs) where
       let e' : order_hold v ≡ 0 = ap hold free in
       let within = r.within id v at in
       let none_set : total order_bit xs ≡ 0 = omega (arith, order_is, clear) in
-      moves id v (on v (with_order v.shares Claimed n)) (n + 4294967296) at refl (r.small id v at) (omega (arith, e)) (omega (arith, none_set)) (omega (arith, within, e'))
+      moves id v (on v (with_order v.shares Claimed n)) (n + 4294967296) at refl (r.small id v at) (omega (arith, e)) (omega (arith, none_set)) (omega (arith, within, e), omega (arith, within, e'))
       (λ H S eH eS l. still (total order_hold xs) H (total op_share xs) S 0 (op_share v) r.apart (omega (arith, eH, e')) eS l) (keep_full v)
 
   -- the claim becomes a hold once a look finds no operation share
@@ -155,7 +155,7 @@ module _ (n : ℕ) (xs : List Footing) (r : Phase n xs) where
       let one = r.one in
       let no_ops : total op_weight xs ≡ 0 = omega (arith, ops_is, none_seen) in
       let shares : total op_share xs ≤ total op_weight xs = total_le op_share op_weight xs (λ i x _. share_weight x.shares.op) in
-      moves id v (on v (with_order v.shares Holding n)) n at refl (r.small id v at) (omega (arith, e)) (omega (arith, one, e)) (omega (arith, within, e'))
+      moves id v (on v (with_order v.shares Holding n)) n at refl (r.small id v at) (omega (arith, e)) (omega (arith, one, e)) (omega (arith, within, e), omega (arith, within, e'))
       (λ H S eH eS l. omega (arith, eS, no_ops, shares)) (keep_full v)
 
   pub order_cleared : (id : ℕ) (v : Footing) → get_elem? xs id ≡ some v → order_bit v ≡ 1 → v.shares.full ≡ Free → (4294967296 ≤ n) × (order_of n ≡ 1) × Phase (n - 4294967296) (set xs id (on v (with_order v.shares Free n)))
@@ -167,7 +167,7 @@ module _ (n : ℕ) (xs : List Footing) (r : Phase n xs) where
       let big : 4294967296 ≤ n = omega (arith, fields, has, set_bit) in (
         big,
         omega (arith, order_is, has, set_bit, one),
-        moves id v (on v (with_order v.shares Free n)) (n - 4294967296) at refl (r.small id v at) (omega (arith, set_bit, big)) (omega (arith, one, set_bit)) (omega (arith, f))
+        moves id v (on v (with_order v.shares Free n)) (n - 4294967296) at refl (r.small id v at) (omega (arith, set_bit, big)) (omega (arith, one, set_bit)) (omega (arith, f), omega (arith, f'))
             (λ H S eH eS l. let k = r.apart (omega (arith, eH, l)) in omega (arith, k, eS)) (keep_full v),
       )
 
@@ -179,24 +179,38 @@ module _ (n : ℕ) (xs : List Footing) (r : Phase n xs) where
       let h : order_hold v ≡ 1 = ap hold holding in
       let o : order_bit v ≡ 1 = ap bit holding in
       let one = r.one in
-      let b = bounds in let full_bits = b.2 in let holds = b.3 in
       let moved = total-set full_bit xs id v (on v (with_full v.shares Claimed n)) at in
-      let others : total full_bit xs ≡ 0 = let l = total_le full_bit order_hold (set xs id (on v (with_full v.shares Claimed n))) (each_set (λ i (x : Footing). full_bit x ≤ order_hold x) xs id (on v (with_full v.shares Claimed n)) (λ i x _ here. r.within i x here) (omega (arith, h))) in
-      let hs = total-set order_hold xs id v (on v (with_full v.shares Claimed n)) at in omega (arith, l, hs, moved, e, one, holds) in (
+      let others : total full_bit xs ≡ 0 = let l = total_le full_bit order_bit (set xs id (on v (with_full v.shares Claimed n))) (each_set (λ i (x : Footing). full_bit x ≤ order_bit x) xs id (on v (with_full v.shares Claimed n)) (λ i x _ here. (r.within i x here).0) (omega (arith, o))) in
+      let bits = total-set order_bit xs id v (on v (with_full v.shares Claimed n)) at in omega (arith, l, bits, moved, e, one) in (
         omega (arith, full_is, others),
-        moves id v (on v (with_full v.shares Claimed n)) (n + 8589934592) at refl (r.small id v at) (omega (arith, e)) (omega (arith, one)) (omega (arith, h)) (keep_order v)
+        moves id v (on v (with_full v.shares Claimed n)) (n + 8589934592) at refl (r.small id v at) (omega (arith, e)) (omega (arith, one)) (omega (arith, o), omega (arith, h)) (keep_order v)
             (λ F W eF eW l. still (total full_hold xs) F (total walk_share xs) W 0 (walk_share v) r.apart_full (omega (arith, eF, e')) eW l),
       )
 
-  pub full_held : (id : ℕ) (v : Footing) → get_elem? xs id ≡ some v → v.shares.full ≡ Claimed → walks_of n ≡ 0 → Phase n (set xs id (on v (with_full v.shares Holding n)))
-  full_held id v at claimed none_seen =
+  pub full_held : (id : ℕ) (v : Footing) → get_elem? xs id ≡ some v → v.shares.order ≡ Holding → v.shares.full ≡ Claimed → walks_of n ≡ 0 → Phase n (set xs id (on v (with_full v.shares Holding n)))
+  full_held id v at holding claimed none_seen =
       let e : full_bit v ≡ 1 = ap bit claimed in
-      let within = r.within id v at in
+      let o : order_bit v ≡ 1 = ap bit holding in
+      let h : order_hold v ≡ 1 = ap hold holding in
       let one = r.one in
       let no_walks : total walk_weight xs ≡ 0 = omega (arith, walks_is, none_seen) in
       let shares : total walk_share xs ≤ total walk_weight xs = total_le walk_share walk_weight xs (λ i x _. share_weight x.shares.walk) in
-      moves id v (on v (with_full v.shares Holding n)) n at refl (r.small id v at) (omega (arith, e)) (omega (arith, one)) (omega (arith, within, e)) (keep_order v)
+      moves id v (on v (with_full v.shares Holding n)) n at refl (r.small id v at) (omega (arith, e)) (omega (arith, one)) (omega (arith, o), omega (arith, h)) (keep_order v)
       (λ F W eF eW l. omega (arith, eW, no_walks, shares))
+
+  -- both holds become claims, and an operation share is held beside them
+  pub op_kept : (id : ℕ) (v : Footing) → get_elem? xs id ≡ some v → 0 < v.parts → v.shares.op ≡ Nothing → v.shares.order ≡ Holding → v.shares.full ≡ Holding → Phase (suc n) (set xs id (on v (with_op (claims v.shares) Held n)))
+  op_kept id v at some_part none_yet holding full =
+      let e : op_weight v ≡ 0 = ap weight none_yet in
+      let o : order_bit v ≡ 1 = ap bit holding in
+      let h : order_hold v ≡ 1 = ap hold holding in
+      let f : full_bit v ≡ 1 = ap bit full in
+      let g : full_hold v ≡ 1 = ap hold full in
+      let one = r.one in let b = bounds in let small = r.small id v at in
+      let most = b.3 in let w = small.1 in
+      let few : total full_hold xs ≤ total order_hold xs = total_le full_hold order_hold xs (λ i x there. (r.within i x there).1) in
+      moves id v (on v (with_op (claims v.shares) Held n)) (suc n) at refl (omega (arith, some_part), w) (omega (arith, e, o, f)) (omega (arith, one, o)) (omega arith, omega arith)
+      (λ H S eH eS l. absurd (omega (arith, eH, l, h, most, one))) (λ F W eF eW l. absurd (omega (arith, eF, l, g, few, most, one)))
 
   pub full_cleared : (id : ℕ) (v : Footing) → get_elem? xs id ≡ some v → full_bit v ≡ 1 → (8589934592 ≤ n) × Phase (n - 8589934592) (set xs id (on v (with_full v.shares Free n)))
   full_cleared id v at set_bit =
@@ -204,7 +218,7 @@ module _ (n : ℕ) (xs : List Footing) (r : Phase n xs) where
       let has = total-has full_bit xs id v at in
       let big : 8589934592 ≤ n = omega (arith, fields, has, set_bit) in (
         big,
-        moves id v (on v (with_full v.shares Free n)) (n - 8589934592) at refl (r.small id v at) (omega (arith, set_bit, big)) (omega (arith, one)) (omega arith) (keep_order v)
+        moves id v (on v (with_full v.shares Free n)) (n - 8589934592) at refl (r.small id v at) (omega (arith, set_bit, big)) (omega (arith, one)) (omega arith, omega arith) (keep_order v)
             (λ F W eF eW l. let k = r.apart_full (omega (arith, eF, l)) in omega (arith, k, eW)),
       )
 
@@ -244,7 +258,7 @@ phase_starts x few is =
       small = λ i y at. only i y at (λ (z : Footing). (op_weight z ≤ z.parts) × (walk_weight z ≤ z.parts)) (omega (arith, a), omega (arith, b));
       fields = omega (arith, a, b, c, d);
       one = omega (arith, c);
-      within = λ i y at. only i y at (λ (z : Footing). full_bit z ≤ order_hold z) (omega (arith, d));
+      within = λ i y at. only i y at HasBoth (omega (arith, d), omega (arith, f));
       apart = λ l. absurd (omega (arith, l, e));
       apart_full = λ l. absurd (omega (arith, l, f));
     }

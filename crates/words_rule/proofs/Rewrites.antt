@@ -181,8 +181,8 @@ module _ {S : Type 0} (board : S → List (std.Option Cell)) (free_slots : S →
     -- who has the full hold has the order hold
     pub order_by_full : v.shares.full ≡ Holding → v.shares.order ≡ Holding
     order_by_full full =
-        let w = r.phase.within id (footing_of v) (at_map footing_of vs id v at) in
-        let one : bit v.shares.full ≡ 1 = ap bit full in holds v.shares.order (omega (arith, w, one))
+        let w = (r.phase.within id (footing_of v) (at_map footing_of vs id v at)).1 in
+        let one : hold v.shares.full ≡ 1 = ap hold full in holds v.shares.order (omega (arith, w, one))
       where
         holds : (h : Hold) → 0 < hold h → h ≡ Holding
         holds Holding lt = refl
@@ -223,8 +223,8 @@ module _ {S : Type 0} (board : S → List (std.Option Cell)) (free_slots : S →
     -- nobody else has the full hold
     not_full : v.shares.full ≡ Holding → (j : ℕ) (u : View) → j ≢ id → get_elem? vs j ≡ some u → u.shares.full ≡ Holding → ⊥
     not_full full j u apart there other =
-        let w = r.phase.within j (footing_of u) (at_map footing_of vs j u there) in
-        let one : bit u.shares.full ≡ 1 = ap bit other in nobody_shares (order_by_full full) j u apart there (inr (holds u.shares.order (omega (arith, w, one))))
+        let w = (r.phase.within j (footing_of u) (at_map footing_of vs j u there)).1 in
+        let one : hold u.shares.full ≡ 1 = ap hold other in nobody_shares (order_by_full full) j u apart there (inr (holds u.shares.order (omega (arith, w, one))))
       where
         holds : (h : Hold) → 0 < hold h → h ≡ Holding
         holds Holding lt = refl

@@ -35,7 +35,7 @@ use Rattle.words_rule.specs.Views.{sizes_for, one_more, session_of, with_gone, b
 use Rattle.words_rule.specs.Layout.{Shape, Words, content_of, head_of, heads, levels, words_of}
 use Rattle.words_rule.specs.Chains.{Knows}
 use Rattle.words_rule.specs.Journal.{Journal}
-use Rattle.words_rule.specs.Phase.{Phase, Footing, footing_of, weight, share, bit, hold, op_weight, op_share, walk_weight, walk_share, order_bit, order_hold, full_bit, full_hold, part, no_shares}
+use Rattle.words_rule.specs.Phase.{Phase, Footing, HasBoth, footing_of, weight, share, bit, hold, op_weight, op_share, walk_weight, walk_share, order_bit, order_hold, full_bit, full_hold, part, no_shares}
 use Rattle.words_rule.specs.Tallies.{Counted, Tally, tally_of, row_count, refs, size, parts, times, total, sessions_of, parts_of}
 use Rattle.words_rule.specs.Kept.{IsHeldBy, KeepsTally, Kept, Board}
 use Rattle.words_rule.specs.Dues.{slot_of, word_of, IsWork}
@@ -81,9 +81,9 @@ phase_more n xs r id v a b at of_v of_a of_b shared =
           (let y = ow.2 in let w = ww.2 in (omega (arith, y), omega (arith, w)));
       fields = omega (arith, fields, t1, t3, t5, t7);
       one = omega (arith, one, t5);
-      within = each_more (λ i (x : Footing). full_bit x ≤ order_hold x) (set xs id a) b
-          (each_set (λ i (x : Footing). full_bit x ≤ order_hold x) xs id a (λ i x _ there. r.within i x there) (let y = fb.1 in omega (arith, y)))
-          (let y = fb.2 in omega (arith, y));
+      within = each_more (λ i (x : Footing). HasBoth x) (set xs id a) b
+          (each_set (λ i (x : Footing). HasBoth x) xs id a (λ i x _ there. r.within i x there) (let y = fb.1 in let y2 = fh.1 in (omega (arith, y), omega (arith, y2))))
+          (let y = fb.2 in let y2 = fh.2 in (omega (arith, y), omega (arith, y2)));
       apart = λ l. let k = apart (omega (arith, l, t6)) in omega (arith, k, t2);
       apart_full = λ l. let k = apart_full (omega (arith, l, t8)) in omega (arith, k, t4);
     }
@@ -296,9 +296,9 @@ phase_less n xs r id other v w a b at there of_v of_w of_a of_b shared =
           (let y = ow.3 in let z = ww.3 in (omega (arith, y), omega (arith, z)));
       fields = omega (arith, fields, t1, t3, t5, t7);
       one = omega (arith, one, t5);
-      within = each_set (λ i (x : Footing). full_bit x ≤ order_hold x) (set xs id a) other b
-          (λ i x _ lies. each_set (λ i (x : Footing). full_bit x ≤ order_hold x) xs id a (λ i x _ there. r.within i x there) (let y = fb.2 in omega (arith, y)) i x lies)
-          (let y = fb.3 in omega (arith, y));
+      within = each_set (λ i (x : Footing). HasBoth x) (set xs id a) other b
+          (λ i x _ lies. each_set (λ i (x : Footing). HasBoth x) xs id a (λ i x _ there. r.within i x there) (let y = fb.2 in let y2 = fh.2 in (omega (arith, y), omega (arith, y2))) i x lies)
+          (let y = fb.3 in let y2 = fh.3 in (omega (arith, y), omega (arith, y2)));
       apart = λ l. let k = apart (omega (arith, l, t6)) in omega (arith, k, t2);
       apart_full = λ l. let k = apart_full (omega (arith, l, t8)) in omega (arith, k, t4);
     }

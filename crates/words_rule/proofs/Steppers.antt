@@ -17,14 +17,15 @@ use Rattle.words_rule.specs.declared.seat.Guard.{Guard}
 use Rattle.words_rule.specs.declared.seat.Pass.{Pass}
 use Rattle.words_rule.specs.declared.view.Hand.{Hand}
 use Rattle.words_rule.specs.declared.view.Job.{Job}
+use Rattle.words_rule.specs.declared.view.Telling.{Telling}
 use Rattle.words_rule.specs.declared.view.View.{View}
 use Rattle.words_rule.specs.declared.view.Work.{Work}
 use Rattle.words_rule.specs.Dues.{word_of}
 use Rattle.words_rule.specs.Hands as hands
-use Rattle.words_rule.specs.Hands.{linking, pushing, with_level, without_level}
+use Rattle.words_rule.specs.Hands.{IsIdle, linking, pushing, with_level, without_level}
 use Rattle.words_rule.specs.Known.{Own, denoted_in, hand_of, is_among, known_of, own_of, taken_of, with_made, link_of, noted_bits, walk_of}
 use Rattle.words_rule.specs.Loads.{IsSeatOf, LearntMemo, LoadedNode, StoredNode, TakenReads}
-use Rattle.words_rule.specs.Passes.{me, view, in_hand, IsPassOf}
+use Rattle.words_rule.specs.Passes.{me, view, in_hand, IsLiveOf, IsPassOf}
 use Rattle.words_rule.specs.Plays.{HasLoaded, HasTaken, LeadsOn}
 use Rattle.words_rule.specs.Remembered.{AreAnswers}
 use Rattle.words_rule.specs.Steppers.{IsOperating, LiesWithin, is_there, knows, out_of, due_at, kind_at}
@@ -54,7 +55,8 @@ use Rattle.words_rule.proofs.FreeClauses.{due_of}
 use Rattle.std.proofs.Math.Nat.{min-le_right}
 use Rattle.std.proofs.lemmas.Bool.{cases_eq}
 use Rattle.words_rule.specs.declared.seat.OpShare.{OpShare}
-use Rattle.words_rule.specs.Tokens.{IsShare}
+use Rattle.words_rule.specs.Tallies.{counts_after}
+use Rattle.words_rule.specs.Views.{known_after, told_of}
 use Rattle.free_list.specs.FreeSlots.{FreeSlots, slots_in}
 
 some_bits : (a b : ℕ) → Some a ≡ Some b → a ≡ b
@@ -63,9 +65,13 @@ some_bits a b e = cc
 no_bits : (b : ℕ) → ◌≡◌ {A = std.Option ℕ} None (Some b) → ⊥
 no_bits b e = cc
 
+-- a seat that drew a place
+abbrev pub drawn : ℕ → Telling → View → View
+drawn n x v = record v { draws = told_of v.draws n x; known = known_after v.known x; counts = counts_after x.change v.draws.cells v.draws.rows v.counts }
+
 -- at one table, with the same rows and counts
-pub besides_same : (i j : TableId) (v u : View) → j ≡ i → u.draws ≡ v.draws → u.counts ≡ v.counts → besides_of j u ≡ besides_of i v
-besides_same i j v u table draws counts = λ k. record {
+pub besides_same : (i j : TableId) (v u : View) → j ≡ i → u.draws ≡ v.draws → u.shares ≡ v.shares → u.counts ≡ v.counts → besides_of j u ≡ besides_of i v
+besides_same i j v u table draws shares counts = λ k. record {
   words = (table k).words;
   slots = (table k).slots;
   views_name = (table k).views_name;
@@ -74,6 +80,7 @@ besides_same i j v u table draws counts = λ k. record {
   offset = (table k).offset;
   slot_names = (table k).slot_names;
   draws = draws k;
+  shares = shares k;
   counts = counts k;
 }
 
@@ -150,7 +157,6 @@ module _ {S : Type 0} (free_slots : S → FreeSlots) (memo : S → List ℕ) (g 
   grown_on room' at seat o same list' table' within reads list_is roomy table_is stands answers out = record {
     own = (at, ap (λ d. d.live) seat.draws ∙ i.own.1);
     share = ap (λ x. x.op) seat.shares ∙ i.share;
-    alone = (ap (λ x. x.walk) seat.shares ∙ i.alone.0, ap (λ x. x.order) seat.shares ∙ i.alone.1, ap (λ x. x.full) seat.shares ∙ i.alone.2);
     stands = subst (λ (x : Own). Stands (known_of (view q) x)) (sym same) stands;
     within = subst (λ (x : Own). LiesWithin (known_of (view q) x)) (sym same) within;
     reads = reads;
@@ -328,7 +334,6 @@ module _ {S : Type 0} (free_slots : S → FreeSlots) (memo : S → List ℕ) (g 
       let o = own_of (view p) room' in record {
         own = i.own;
         share = i.share;
-        alone = i.alone;
         stands = stands_own (view p) (own_of (view p) room) o i.stands.few_fulls i.stands;
         within = record { turn = i.within.turn; taken = i.within.taken; loose = i.within.loose; walk = i.within.walk };
         reads = i.reads;
@@ -338,6 +343,21 @@ module _ {S : Type 0} (free_slots : S → FreeSlots) (memo : S → List ℕ) (g 
         answers = λ x there. answers_own (view p) (own_of (view p) room) o (memo x) (answers x there);
         out = i.out ∙ sym outs;
       }
+
+  -- it drew the place of a call
+  pub drawn_on : (n : ℕ) (x : Telling) → IsPassOf g q → in_hand q ≡ in_hand p → view q ≡ drawn n x (view p) → IsOperating free_slots memo g q list table room
+  drawn_on n x at out is = record {
+    own = (at, ap (λ (u : View). u.draws.live) is ∙ i.own.1);
+    share = ap (λ (u : View). u.shares.op) is ∙ i.share;
+    stands = subst (λ (u : View). Stands (knows u room)) (sym is) i.stands;
+    within = subst (λ (u : View). LiesWithin (knows u room)) (sym is) i.within;
+    reads = subst TakenReads (sym is) i.reads;
+    list_is = ap (λ (u : View). u.hand.free) is ∙ i.list_is;
+    roomy = λ y there. i.roomy y there ∙ ap (λ (u : View). u.draws.slots) (sym is);
+    table_is = ap (λ (u : View). u.hand.memo) is ∙ i.table_is;
+    answers = λ y there. subst (λ (u : View). AreAnswers (knows u room).view (memo y)) (sym is) (i.answers y there);
+    out = out ∙ i.out;
+  }
 
   pub same_view_on : IsPassOf g q → in_hand q ≡ in_hand p → view q ≡ view p → IsOperating free_slots memo g q list table room
   same_view_on at out is = hand_on at (view p).hand is list table i.within i.reads i.list_is i.roomy i.table_is i.answers (out ∙ i.out)
@@ -454,20 +474,19 @@ not_some None e = refl
 not_some (Some x) e = absurd (true≢false e)
 
 -- a seat that took an operation share, with nothing in hand
-pub first_stepper : {S : Type 0} (free_slots : S → FreeSlots) (memo : S → List ℕ) (g : Guard S) (s : OpShare S) (room : ℕ) → IsShare g s → ((o : Own) → o.fulls < 18446744073709551616 → Stands (known_of (view s.pass) o)) → (view s.pass).work.fulls < 18446744073709551616
+pub first_stepper : {S : Type 0} (free_slots : S → FreeSlots) (memo : S → List ℕ) (g : Guard S) (s : OpShare S) (room : ℕ) → IsLiveOf g s.pass × IsIdle (view s.pass).hand → ((o : Own) → o.fulls < 18446744073709551616 → Stands (known_of (view s.pass) o)) → (view s.pass).work.fulls < 18446744073709551616
     → ((view s.pass).hand.levels ≡ []) × ((view s.pass).hand.free ≡ None) × ((view s.pass).hand.link ≡ None) × ((view s.pass).hand.memo ≡ false) → in_hand s.pass ≡ [] → IsOperating free_slots memo g s.pass None None room
 first_stepper free_slots memo g s room is stands few idle empty = record {
   own = is.0;
   share = s.held;
-  alone = (is.1, is.2, is.3);
   stands = stands (own_of (view s.pass) room) few;
   within = record {
     turn = λ l there. absurd (subst (λ (x : List ℕ). Lists x l) idle.0 there);
-    taken = λ t its. absurd (nothing (sym (ap (std.option_map taken_of) is.4.0) ∙ its));
-    loose = λ t its. absurd (nothing (sym is.4.1 ∙ its));
-    walk = λ n its. absurd (nothing (sym (ap (std.option_map walk_of) is.4.2) ∙ its));
+    taken = λ t its. absurd (nothing (sym (ap (std.option_map taken_of) is.1.0) ∙ its));
+    loose = λ t its. absurd (nothing (sym is.1.1 ∙ its));
+    walk = λ n its. absurd (nothing (sym (ap (std.option_map walk_of) is.1.2) ∙ its));
   };
-  reads = λ job its. absurd (nothing (sym is.4.0 ∙ its));
+  reads = λ job its. absurd (nothing (sym is.1.0 ∙ its));
   list_is = idle.1;
   roomy = λ x there. absurd (nothing there);
   table_is = idle.3;

@@ -336,9 +336,9 @@ module _ {S : Type 0} (board : S → List (std.Option Cell)) (free_slots : S →
         free_not : Free ≡ Holding → ⊥
         free_not e = cc
 
-    pub parts_full_hold : v.shares.full ≡ Claimed → walks_of ws.phase ≡ 0 → (half_in v.known ≡ r.half) × (v.known.pending ≡ r.pending) → PartsOf z (record ws { phase = ws.phase }) home (set vs id (record v { shares = with_full v.shares Holding ws.phase }))
-    parts_full_hold claimed none_seen noted =
-        parts_shares (with_full v.shares Holding ws.phase) ws.phase (full_held ws.phase (footings_in vs) r.phase id (footing_of v) (at_map footing_of vs id v at) claimed none_seen)
+    pub parts_full_hold : v.shares.order ≡ Holding → v.shares.full ≡ Claimed → walks_of ws.phase ≡ 0 → (half_in v.known ≡ r.half) × (v.known.pending ≡ r.pending) → PartsOf z (record ws { phase = ws.phase }) home (set vs id (record v { shares = with_full v.shares Holding ws.phase }))
+    parts_full_hold holding claimed none_seen noted =
+        parts_shares (with_full v.shares Holding ws.phase) ws.phase (full_held ws.phase (footings_in vs) r.phase id (footing_of v) (at_map footing_of vs id v at) holding claimed none_seen)
         ((λ h. h), λ h. h) (λ f. inl refl) (r.tied id v at).taken (λ held. inl held) (λ was. inl was) (λ _. inr noted)
 
     pub parts_full_out : v.shares.full ≡ Holding → r.half ≡ None → r.pending ≡ [] → PartsOf z (record ws { phase = ws.phase - 8589934592 }) home (set vs id (record v { shares = with_full v.shares Free ws.phase }))

@@ -13,7 +13,7 @@ use Rattle.words_rule.specs.declared.view.Share.TheVariants.{Nothing, Held, Owed
 use Rattle.words_rule.specs.declared.view.Shares.{Shares}
 use Rattle.words_rule.specs.declared.view.View.{View}
 use Rattle.words_rule.specs.Shapes.{shape_in}
-use Rattle.words_rule.specs.Phase.{order_of, ops_of, walks_of, with_op, with_walk, with_order, with_full}
+use Rattle.words_rule.specs.Phase.{claims, order_of, ops_of, walks_of, with_op, with_walk, with_order, with_full}
 use Rattle.words_rule.specs.Kept.{IsHeldBy}
 use Rattle.words_rule.specs.Known.{Own, known_of, noted_content}
 use Rattle.words_rule.specs.Loads.{IsInside, sees_of}
@@ -57,6 +57,10 @@ module _ {S : Type 0} where
   -- an operation share is held where the word before had neither bit, else it is owed
   abbrev pub op_entered : Step S → Me S View → ℕ → Me S View → Type 0
   op_entered st m n m' = (m'.1 ≡ m.1) × (n < 4294967296 → HasEntered m.0 m'.0 (with_op m.0.shares Held n)) × (4294967296 ≤ n → IsWith m (with_op m.0.shares Owed n) m')
+
+  -- An operation share is held beside both bits, which are claims from then on. What was noted of counts under the holds goes.
+  abbrev pub op_kept : Step S → Me S View → ℕ → Me S View → Type 0
+  op_kept st m n m' = (m'.1 ≡ m.1) × HasEntered (record m.0 { counts = record m.0.counts { zeros = []; above = [] } }) m'.0 (with_op (claims m.0.shares) Held n)
 
   abbrev pub op_left : Step S → Me S View → ℕ → Me S View → Type 0
   op_left st m n m' = m' ≡ (forgetting (record m.0 { shares = with_op m.0.shares Nothing n }), m.1)

@@ -16,12 +16,12 @@ use Rattle.words_rule.specs.declared.seat.Guard.{Guard}
 use Rattle.words_rule.specs.declared.seat.Pass.{Pass}
 use Rattle.words_rule.specs.declared.stepper.Stepper.{Stepper}
 use Rattle.words_rule.specs.declared.view.Besides.{Besides}
-use Rattle.words_rule.specs.declared.view.Hold.TheVariants.{Free}
-use Rattle.words_rule.specs.declared.view.Share.TheVariants.{Held, Nothing}
+use Rattle.words_rule.specs.declared.view.Share.TheVariants.{Held}
 use Rattle.words_rule.specs.declared.view.View.{View}
 use Rattle.words_rule.specs.Known.{known_of, own_of}
 use Rattle.words_rule.specs.Loads.{TakenReads}
 use Rattle.words_rule.specs.Passes.{view, in_hand, IsLiveOf}
+use Rattle.words_rule.specs.Phase.{no_shares}
 use Rattle.words_rule.specs.Remembered.{AreAnswers}
 use Rattle.words_rule.specs.Views.{blank}
 use Rattle.free_list.specs.FreeSlots.{FreeSlots, slots_in}
@@ -40,6 +40,7 @@ no_besides = record {
   offset = 0;
   slot_names = [];
   draws = blank;
+  shares = no_shares;
   counts = record { raised = []; owed = []; pins = []; zeros = []; above = []; generations = [] };
 }
 
@@ -71,11 +72,10 @@ due_at w (jobs.Node v hi lo) = function_of (kind_at (function_at w hi)) (node_va
 due_at w (jobs.Leaf x) = function_of Add (constant x)
 
 module _ {S : Type 0} (free_slots : S → FreeSlots) (memo : S → List ℕ) where
-  -- an operation share alone, with the free list and the computed table where it has them in hand
+  -- an operation share, with the free list and the computed table where it has them in hand
   pub record IsOperating (g : Guard S) (p : Pass S) (list table : Option S) (room : ℕ) : Type 0 where
     pub own : IsLiveOf g p
     pub share : (view p).shares.op ≡ Held
-    pub alone : ((view p).shares.walk ≡ Nothing) × ((view p).shares.order ≡ Free) × ((view p).shares.full ≡ Free)
     pub stands : Stands (knows (view p) room)
     pub within : LiesWithin (knows (view p) room)
     pub reads : TakenReads (view p)

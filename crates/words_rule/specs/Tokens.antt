@@ -1,6 +1,6 @@
 -- What contracts say of shares that own their session's seat.
 use Rattle.std.specs.Prelude.{◌≡◌, ◌≢◌, ◌⊎◌, ◌<◌, ◌≤◌, ℕ, [], Some}
-use Rattle.words_rule.specs.declared.view.Hold.TheVariants.{Free}
+use Rattle.words_rule.specs.declared.view.Hold.TheVariants.{Claimed, Free}
 use Rattle.words_rule.specs.declared.view.Share.TheVariants.{Held, Nothing}
 use Rattle.edge_bits.specs.Permanent.{base_slot}
 use Rattle.function_laws.specs.Families.{base}
@@ -18,7 +18,7 @@ use Rattle.words_rule.specs.declared.seat.WalkShare.{WalkShare}
 use Rattle.words_rule.specs.declared.seat.OrderHold.{OrderHold}
 use Rattle.words_rule.specs.Views.{orders_of, told_orders}
 use Rattle.step_store.specs.Knowing.{Stands}
-use Rattle.words_rule.specs.Known.{Own, known_of}
+use Rattle.words_rule.specs.Known.{Own, known_of, noted_content}
 use Rattle.words_rule.specs.Hands.{IsIdle}
 use Rattle.words_rule.specs.Phase.{order_of, ops_of, with_op, with_walk}
 use Rattle.words_rule.specs.PhasePlays.{HasEntered, HasSetOut}
@@ -69,6 +69,10 @@ module _ {S : Type 0} where
   abbrev pub SetsOut : Pass S → Pass S → Type 0
   SetsOut p q = ((n : ℕ) × HasSetOut (view p) (view q) (with_walk (view p).shares Held n)) × (in_hand q ≡ in_hand p)
 
+  -- an operation share beside claims of both bits, in the midst of nothing: nobody else gets a share or a hold
+  abbrev pub IsLoneShare : Guard S → OpShare S → Type 0
+  IsLoneShare g s = IsLiveOf g s.pass × ((view s.pass).shares.walk ≡ Nothing) × ((view s.pass).shares.order ≡ Claimed) × ((view s.pass).shares.full ≡ Claimed) × IsIdle (view s.pass).hand
+
   -- the order hold alone, in the midst of nothing
   abbrev pub IsHold : Guard S → OrderHold S → Type 0
   IsHold g h = IsLiveOf g h.pass × ((view h.pass).shares.op ≡ Nothing) × ((view h.pass).shares.walk ≡ Nothing) × ((view h.pass).shares.full ≡ Free) × IsIdle (view h.pass).hand
@@ -77,9 +81,17 @@ module _ {S : Type 0} where
   abbrev pub HasOrders : Pass S → Pass S → Type 0
   HasOrders p q = Keeps p q × (orders_of (view q).known ≡ told_orders (view q).known)
 
+  -- it knows the slots that are told by their number, the projections, and what its rows' edges denote
+  abbrev pub KnowsRows : Pass S → Pass S → Type 0
+  KnowsRows p q = ((o : Own) → o.fulls < 18446744073709551616 → Stands (known_of (view q) o)) × Each (λ (row : Row). IsHeldBy (shape_in (view p).draws) (noted_content (view q)).function row.held) (view p).draws.rows
+
   -- the same after a wait, which took it and gave it back before
   abbrev pub Begins : Pass S → Pass S → Type 0
-  Begins p q = Keeps p q × ((o : Own) → o.fulls < 18446744073709551616 → Stands (known_of (view q) o))
+  Begins p q = Keeps p q × KnowsRows p q
+
+  -- what was noted of counts under the holds goes
+  abbrev pub BeginsAlone : Pass S → Pass S → Type 0
+  BeginsAlone p q = KeepsBut p q × KnowsRows p q
 
   abbrev pub SetsBegun : Pass S → Pass S → Type 0
   SetsBegun p q = Keeps p q × ((sees_of (view q)).content base_slot ≡ Some (ZddFamily base)) × IsInside (view q) × Each (λ (row : Row). IsHeldBy (shape_in (view p).draws) (sees_of (view q)).content row.held) (view p).draws.rows

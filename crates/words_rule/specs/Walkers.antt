@@ -22,6 +22,7 @@ besides_of i v = record {
   offset = i.offset;
   slot_names = i.slot_names;
   draws = v.draws;
+  shares = v.shares;
   counts = v.counts;
 }
 

@@ -4,7 +4,8 @@ ghost use Rattle.words_rule.specs.declared.view.Hold.TheVariants.{Free, Claimed,
 ghost use Rattle.words_rule.specs.declared.view.Share.TheVariants.{Nothing, Held, Owed};
 ghost use Rattle.words_rule.specs.Views.{orders_of, told_orders};
 ghost use Rattle.words_rule.specs.Hands.{IsIdle};
-ghost use Rattle.words_rule.specs.Phase.{order_of, ops_of, walks_of, with_op, with_walk, with_order, with_full};
+ghost use Rattle.words_rule.specs.Holds.{IsUnswapped};
+ghost use Rattle.words_rule.specs.Phase.{claims, order_of, ops_of, walks_of, with_op, with_walk, with_order, with_full};
 ghost use Rattle.words_rule.specs.PhasePlays.{HasEntered, HasSetOut, forgetting, unswapped};
 ghost use Rattle.words_rule.specs.Seen.{HasShare};
 ghost use Rattle.words_rule.specs.Passes.{me, view, in_hand, IsLiveOf, IsPassOf};
@@ -12,8 +13,8 @@ ghost use Rattle.words_rule.specs.Passes.{me, view, in_hand, IsLiveOf, IsPassOf}
 use crate::content::Content;
 use crate::layout::PHASE;
 use crate::phase_plays::{
-    ClaimFull, ClaimOrder, EnterOperation, EnterWalk, LeaveFull, LeaveOperation, LeaveOrder,
-    LeaveWalk, LookFull, LookOrder, UnclaimFull, UnclaimOrder,
+    ClaimFull, ClaimOrder, EnterOperation, EnterWalk, KeepOperation, LeaveFull, LeaveOperation,
+    LeaveOrder, LeaveWalk, LookFull, LookOrder, UnclaimFull, UnclaimOrder,
 };
 use crate::seat::{Guard, Pass};
 
@@ -40,6 +41,24 @@ impl<S: Content> Guard<S> {
         self.table
             .shared
             .fetch_add::<EnterOperation>(&mut pass.seat, PHASE, 1)
+    }
+
+    /// Takes an operation share with both holds, which are claims from then on, and answers the word before: nobody else gets a share or a
+    /// hold meanwhile. No pin is left, nothing is in hand, no swap is half made, and the entries told the orders. What was noted under the
+    /// holds goes; the seat knows what its rows' edges denote, the slots that are told by their number, and the projections.
+    pub fn keep_operation(&self, pass: &mut Pass<S>) -> u64
+        requires own { IsLiveOf self.now pass.old }
+        requires holds { ((view pass.old).shares.order ≡ Holding) × ((view pass.old).shares.full ≡ Holding) × ((view pass.old).shares.op ≡ Nothing) }
+        requires idle { IsIdle (view pass.old).hand }
+        requires pins { (view pass.old).counts.pins ≡ [] }
+        requires told { orders_of (view pass.old).known ≡ told_orders (view pass.old).known }
+        requires done { IsUnswapped (view pass.old) }
+        ensures own { IsPassOf self.now pass.new × (in_hand pass.new ≡ in_hand pass.old) }
+        ensures held { HasEntered (record (view pass.old) { counts = record (view pass.old).counts { zeros = []; above = [] } }) (view pass.new) (with_op (claims (view pass.old).shares) Held result) }
+    {
+        self.table
+            .shared
+            .fetch_add::<KeepOperation>(&mut pass.seat, PHASE, 1)
     }
 
     /// Takes an operation share, or what is owed of one, out of the word, and answers the word before. What was noted of nodes goes.
@@ -150,7 +169,7 @@ impl<S: Content> Guard<S> {
     /// half made.
     pub fn look_full(&self, pass: &mut Pass<S>) -> u64
         requires own { IsLiveOf self.now pass.old }
-        requires claim { (view pass.old).shares.full ≡ Claimed }
+        requires claim { ((view pass.old).shares.order ≡ Holding) × ((view pass.old).shares.full ≡ Claimed) }
         ensures own { IsPassOf self.now pass.new × (in_hand pass.new ≡ in_hand pass.old) }
         ensures holds { walks_of result ≡ 0 → view pass.new ≡ record (view pass.old) { shares = with_full (view pass.old).shares Holding result; known = unswapped (view pass.old).known } }
         ensures missed { walks_of result ≢ 0 → view pass.new ≡ view pass.old }

@@ -12,6 +12,15 @@ impl<S> Play<Option<S>, View> for EnterOperation {
     ghost then = { op_entered };
 }
 
+/// It is taken by who has both holds, which become claims.
+pub struct KeepOperation;
+
+impl<S> Play<Option<S>, View> for KeepOperation {
+    ghost use Rattle.words_rule.specs.PhasePlays.{op_kept};
+
+    ghost then = { op_kept };
+}
+
 /// It is given back, or what was owed is paid.
 pub struct LeaveOperation;
 

@@ -1,15 +1,22 @@
 //! A seat with an operation share, as what a store that only grows asks for.
-ghost use Rattle.std.specs.Prelude.{◌≡◌, ◌<◌, [], None, false};
+ghost use Rattle.std.specs.Prelude.{◌≡◌, ◌<◌, ◌^◌, [], length, All, None, true, false};
+ghost use Rattle.function_laws.specs.declared.history.Entry.{Entry};
 ghost use Rattle.node_slots.specs.Stores.{lent_room};
 ghost use Rattle.step_store.specs.Knowing.{Stands, idle};
 ghost use Rattle.words_rule.specs.Known.{Own, known_of};
-ghost use Rattle.words_rule.specs.Passes.{in_hand, view};
+ghost use Rattle.words_rule.specs.Hands.{IsIdle};
+ghost use Rattle.words_rule.specs.Moves.{MayMove};
+ghost use Rattle.words_rule.specs.Ordered.{is_ordering};
+ghost use Rattle.words_rule.specs.Passes.{IsLiveOf, in_hand, view};
+ghost use Rattle.words_rule.specs.Refusals.{MayRefuse, is_refused};
 ghost use Rattle.words_rule.specs.Steppers.{IsStepper, knows};
-ghost use Rattle.words_rule.specs.Tokens.{IsShare};
+ghost use Rattle.words_rule.specs.Tallies.{counts_after};
+ghost use Rattle.words_rule.specs.Views.{MayTell, known_after, told_of};
 
 use crate::known_steps;
 use crate::seat::{Guard, OpShare, Pass};
 use crate::shelf::Shelf;
+use crate::told::Told;
 use crate::view::Besides;
 use edge_bits::Edge;
 use node_store::{Key, Stack};
@@ -255,7 +262,7 @@ impl<S: Shelf> Guard<S> {
         share: OpShare<S>,
         scratch: Option<Stack>,
     ) -> Stepper<'a, S>
-        requires own { IsShare self.now share }
+        requires own { IsLiveOf self.now share.pass × IsIdle (view share.pass).hand }
         requires stands { (o : Own) → o.fulls < 18446744073709551616 → Stands (known_of (view share.pass) o) }
         requires few { (view share.pass).work.fulls < 18446744073709551616 }
         requires idle { ((view share.pass).hand.levels ≡ []) × ((view share.pass).hand.free ≡ None) × ((view share.pass).hand.link ≡ None) × ((view share.pass).hand.memo ≡ false) }
@@ -276,11 +283,28 @@ impl<S: Shelf> Guard<S> {
 }
 
 impl<'a, S: Shelf> Stepper<'a, S> {
+    /// Draws the place of a call that changes no order. What the seat has in hand stays there: so a refused operation is told with the
+    /// empty free list and the turn of its level in hand.
+    pub fn draw<E: Told>(&mut self) -> u64
+        requires own { IsStepper S.free_slots S.memo self.old }
+        requires room { length (view self.old.pass).draws.entries < 2 ^ 48 }
+        requires step { MayTell (view self.old.pass).draws E.told }
+        requires moves { MayMove (view self.old.pass).draws (view self.old.pass).counts E.told }
+        requires plain { is_ordering E.told.call ≡ false }
+        requires full { is_refused E.told ≡ true → MayRefuse (view self.old.pass) }
+        ensures own { IsStepper S.free_slots S.memo self.new }
+        ensures same { (knows (view self.new.pass) (lent_room self.new.scratch) ≡ knows (view self.old.pass) (lent_room self.old.scratch)) × (self.new.pass.seat.table_id ≡ self.old.pass.seat.table_id) }
+        ensures drew { view self.new.pass ≡ record (view self.old.pass) { draws = told_of (view self.old.pass).draws result E.told; known = known_after (view self.old.pass).known E.told; counts = counts_after E.told.change (view self.old.pass).draws.cells (view self.old.pass).draws.rows (view self.old.pass).counts } }
+        ensures later { All (λ (e : Entry). e.place < result) (view self.old.pass).draws.entries }
+    {
+        self.guard.place::<E>(&mut self.pass)
+    }
+
     /// The operation share, and the scratch, once nothing is in hand.
     pub fn into_share(self) -> (OpShare<S>, Option<Stack>)
         requires own { IsStepper S.free_slots S.memo self }
         requires idle { (knows (view self.pass) (lent_room self.scratch)).hand ≡ idle }
-        ensures share { IsShare self.entry.guard.now result.0 × (result.0.pass ≡ self.entry.pass) × (result.1 ≡ self.entry.scratch) }
+        ensures share { IsLiveOf self.entry.guard.now result.0.pass × IsIdle (view result.0.pass).hand × (result.0.pass ≡ self.entry.pass) × (result.1 ≡ self.entry.scratch) }
         ensures empty { in_hand result.0.pass ≡ [] }
     {
         let Stepper {

@@ -12,5 +12,8 @@ pub op_out-requires : goal.op_out-requires
 op_out-requires g c =
     let i = c.into_share-share.ensures.share in
     let first = c.stepper-seat.ensures.own.1 in
-    let table = ap (λ p. p.seat.table_id) i.1 ∙ ap table_in c.work_at_home-seat.ensures.home ∙ ap (λ p. p.seat.table_id) first ∙ c.op_wait-share.ensures.0.0.0 in
-    ((table, i.0.0.1), i.0.1, i.0.2, i.0.3, i.0.4)
+    let home = c.work_at_home-seat.ensures.home in
+    let share = c.op_wait-share.ensures.0 in
+    let table = ap (λ p. p.seat.table_id) i.2 ∙ ap table_in home ∙ ap (λ p. p.seat.table_id) first ∙ share.0.0 in
+    let shares = ap (λ p. (view p).shares) i.2 ∙ ap (λ b. b.shares) home ∙ ap (λ p. (view p).shares) first in
+    ((table, i.0.1), ap (λ x. x.walk) shares ∙ share.1, ap (λ x. x.order) shares ∙ share.2, ap (λ x. x.full) shares ∙ share.3, i.1)

@@ -7,11 +7,14 @@ pub stepper-seat-requires-clause-few : goal.stepper-seat-requires-clause-few
 stepper-seat-requires-clause-few g c = let same = ap (λ w. w.fulls) c.op_wait-share.ensures.1.0.0.work in let none = c.requires.fulls in omega (arith, same, none)
 
 pub stepper-seat-requires-clause-idle : goal.stepper-seat-requires-clause-idle
-stepper-seat-requires-clause-idle g c = let h = c.op_wait-share.ensures.1.0.0.hand in (ap (λ x. x.levels) h ∙ c.requires.levels, ap (λ x. x.free) h ∙ c.requires.list, ap (λ x. x.link) h ∙ c.requires.link, ap (λ x. x.memo) h ∙ c.requires.memo)
+stepper-seat-requires-clause-idle g c = let h = c.op_wait-share.ensures.1.0.0.hand in (ap (λ x. x.levels) h ∙ c.requires.calm.levels, ap (λ x. x.free) h ∙ c.requires.calm.list, ap (λ x. x.link) h ∙ c.requires.calm.link, ap (λ x. x.memo) h ∙ c.requires.calm.memo)
 
 pub op_out-requires : goal.op_out-requires
 op_out-requires g c =
     let i = c.into_share-share.ensures.share in
     let first = c.stepper-seat.ensures.own.1 in
-    let table = ap (λ p. p.seat.table_id) i.1 ∙ ap table_in c.ask_at_home-seat.ensures.home ∙ ap (λ p. p.seat.table_id) first ∙ c.op_wait-share.ensures.0.0.0 in
-    ((table, i.0.0.1), i.0.1, i.0.2, i.0.3, i.0.4)
+    let home = c.ask_at_home-seat.ensures.home in
+    let share = c.op_wait-share.ensures.0 in
+    let table = ap (λ p. p.seat.table_id) i.2 ∙ ap table_in home ∙ ap (λ p. p.seat.table_id) first ∙ share.0.0 in
+    let shares = ap (λ p. (view p).shares) i.2 ∙ ap (λ b. b.shares) home ∙ ap (λ p. (view p).shares) first in
+    ((table, i.0.1), ap (λ x. x.walk) shares ∙ share.1, ap (λ x. x.order) shares ∙ share.2, ap (λ x. x.full) shares ∙ share.3, i.1)

@@ -7,7 +7,7 @@ use Rattle.words_rule.proofs.Keeps.{keeps_number, keeps_sizes, keeps_words}
 use Rattle.words_rule.proofs.seat.Guard.look_full.Goals as goal
 
 pub load-requires : goal.load-requires
-load-requires g c = (search rules, (let w = c.args.pass.now.words_are in let s = ap (λ i. i.words) c.requires.own.0 in omega (arith, w, s)), full_looks g.S.Content.board g.S.Content.free_slots g.S.Content.memo _ _ _ c.requires.own.1 c.requires.claim)
+load-requires g c = (search rules, (let w = c.args.pass.now.words_are in let s = ap (λ i. i.words) c.requires.own.0 in omega (arith, w, s)), full_looks g.S.Content.board g.S.Content.free_slots g.S.Content.memo _ _ _ c.requires.own.1 c.requires.claim.0 c.requires.claim.1)
 
 pub invariant_of-pass : goal.invariant_of-pass
 invariant_of-pass g c = let p = c.args.pass.now in let d : c.load.new.seat.me.0.draws ≡ p.seat.me.0.draws = let t = c.load.ensures.2 in dite (ℕ_discrete (walks_of c.load.result) 0) (λ hit. ap (λ m. m.0.draws) (t.0 hit)) (λ miss. ap (λ m. m.0.draws) (t.1 miss)) in record {

@@ -21,7 +21,7 @@ returns-clause-home g c =
     let q = c.take_slot.new.pass in
     let took = c.take_slot.ensures.taken c.next_slot-slot.result (g.S.Content.free_slots c.next_slot-slot.new.self).slots (slot_told g.S.Content.free_slots g.S.Content.memo s.guard.now s.pass s.pass s.free s.memo (lent_room s.scratch) c.requires.own c.in-Some.content (sym c.take.ensures.value ∙ c.in-Some.is) c.next_slot-slot.result (g.S.Content.free_slots c.next_slot-slot.new.self).slots c.next_slot-slot.ensures.first) in
     let same : q.seat.table_id ≡ s.pass.seat.table_id = c.take_slot.ensures.own ∙ sym c.requires.own.own.0 in
-    (ap (λ i. i.views_name) same, besides_same s.pass.seat.table_id q.seat.table_id (view s.pass) (view q) same (ap (λ m. m.0.draws) took.is) (ap (λ m. m.0.counts) took.is))
+    (ap (λ i. i.views_name) same, besides_same s.pass.seat.table_id q.seat.table_id (view s.pass) (view q) same (ap (λ m. m.0.draws) took.is) (ap (λ m. m.0.shares) took.is) (ap (λ m. m.0.counts) took.is))
 
 pub returns-clause-within : goal.returns-clause-within
 returns-clause-within g c =
