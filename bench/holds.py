@@ -7,7 +7,7 @@ The store has the function x0 xK + x1 x(K+1) + .. of 2K variables: 2^(K+1) nodes
 in a store of twice as many slots. What is not to be timed, as the making of the function, is taken off: it is timed alone. Each figure is of
 the least of four runs. A hold is what a holder does before its first sweep and behind its last: by single steps it loads the words of all slots.
 """
-import os
+import resource
 import subprocess
 import sys
 
@@ -16,10 +16,10 @@ def run(*words):
     """The least of four runs' seconds of processor time."""
     seconds = []
     for _ in range(4):
-        before = os.times()
+        before = resource.getrusage(resource.RUSAGE_CHILDREN)
         subprocess.run([sys.argv[1], *map(str, words)], check=True, capture_output=True)
-        after = os.times()
-        seconds.append(after.children_user - before.children_user + after.children_system - before.children_system)
+        after = resource.getrusage(resource.RUSAGE_CHILDREN)
+        seconds.append(after.ru_utime - before.ru_utime + after.ru_stime - before.ru_stime)
     return min(seconds)
 
 

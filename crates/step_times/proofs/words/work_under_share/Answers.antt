@@ -1,4 +1,5 @@
 use Rattle.std.proofs.Common.{ap, ◌∙◌, arith}
+use Rattle.words_rule.specs.Passes.{view}
 use Rattle.step_times.proofs.Lists.{table_in}
 use Rattle.step_times.proofs.words.work_under_share.Goals as goal
 
