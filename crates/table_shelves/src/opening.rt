@@ -30,7 +30,7 @@ fn free_shelf(alloc: Global, key: &Opening) -> Result<FreeShelf, Memory>
 {
     let list = FreeList::new(alloc, FIRST_PROJECTION + key.vars, key.slots)?;
     let room = HolderRoom::new(alloc, key.slots)?;
-    Ok(FreeShelf { list, room })
+    FreeShelf::new(alloc, list, room)
 }
 
 /// A table of so many variables, elements and slots for so many sessions, with the seat that splits theirs off it. The board is empty, all slots but those that are told by their number are free, and the computed table has no answer.

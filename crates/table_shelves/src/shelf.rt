@@ -1,23 +1,39 @@
 //! What a slot has.
 
+ghost use Rattle.std.specs.Prelude.{◌≡◌, IfOk, Some, is_some, true};
+ghost use Rattle.hold_store.specs.declared.holding.HolderRoom.{HolderRoom as RoomOf};
 ghost use Rattle.words_holder.specs.Holders.{IsSpareRoom};
 
 use crate::board::Board;
 use computed_cache::Memo;
-use edge_bits::Edge;
+use edge_bits::{Edge, Memory};
 use free_list::FreeList;
 use hold_store::HolderRoom;
 use node_store::Key;
+use std::alloc::Global;
 use words_holder::HolderShelf;
 use words_rule::content::Content;
 use words_rule::shelf::Shelf;
 
-/// The free list, and the room for what the holder of the store notes of as many slots.
+/// The free list, and the room for what the holder of the store notes of as many slots. That lies behind a pointer, since each new node
+/// moves the content of the slot, and the room is great.
 #[derive(Drop)]
 pub struct FreeShelf {
-    pub list: FreeList,
-    pub room: HolderRoom,
-    ghost spare: { IsSpareRoom list.room room },
+    list: FreeList,
+    room: Box<Option<HolderRoom>>,
+    ghost some: { is_some room.value ≡ true },
+    ghost spare: { (r : RoomOf) → room.value ≡ Some r → IsSpareRoom list.room r },
+}
+
+impl FreeShelf {
+    /// A list, with room for as many slots.
+    pub fn new(alloc: Global, list: FreeList, room: HolderRoom) -> Result<FreeShelf, Memory>
+        requires { IsSpareRoom list.room room }
+        ensures { IfOk result (λ f. f.list ≡ list) }
+    {
+        let room = Box::new(alloc, Some(room))?;
+        Ok(FreeShelf { list, room })
+    }
 }
 
 /// The board, the free list or the computed table.
@@ -72,15 +88,22 @@ impl Shelf for TableShelf {
 }
 
 impl HolderShelf for TableShelf {
-    fn into_list(self) -> (FreeList, HolderRoom) {
+    type Frame = Box<Option<HolderRoom>>;
+
+    fn into_list(self) -> (FreeList, HolderRoom, Box<Option<HolderRoom>>) {
         match self {
-            TableShelf::Free(FreeShelf { list, room }) => (list, room),
+            TableShelf::Free(FreeShelf { list, mut room }) => match room.take() {
+                Some(spare) => (list, spare, room),
+                None => unreachable!(),
+            },
             _ => unreachable!(),
         }
     }
 
-    fn of_list(list: FreeList, room: HolderRoom) -> TableShelf {
-        TableShelf::Free(FreeShelf { list, room })
+    fn of_list(list: FreeList, room: HolderRoom, frame: Box<Option<HolderRoom>>) -> TableShelf {
+        let mut frame = frame;
+        *frame = Some(room);
+        TableShelf::Free(FreeShelf { list, room: frame })
     }
 
     fn into_memo(self) -> Memo {

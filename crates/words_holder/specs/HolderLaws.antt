@@ -53,5 +53,5 @@ seat_stands v list table due renewed lent i =
       free_list = λ l is. (let f = i.free_is in subst (held.IsFreeList (held_content v)) (lent_list lent.free v.hand.free list.slots l i.list_is is) (record { free = f.free; once = f.once; all = f.all }));
     }
 
-pub holder_stands : {S : Type 0} (h : Holder S) → IsHolderAt h.guard.now h.pass h.list h.memo h.due → Stands (knows (view h.pass) h.renewed h.due h.lent)
+pub holder_stands : {S F : Type 0} (h : Holder S F) → IsHolderAt h.guard.now h.pass h.list h.memo h.due → Stands (knows (view h.pass) h.renewed h.due h.lent)
 holder_stands h i = seat_stands (view h.pass) h.list h.memo h.due h.renewed h.lent i.has

@@ -74,6 +74,7 @@ pub struct Holder<'a, S: HolderShelf> {
     guard: &'a Guard<S>,
     pass: Pass<S>,
     list: FreeList,
+    frame: S::Frame,
     memo: Memo,
     lent: Lent,
     renewed: Option<u32>,
@@ -283,11 +284,12 @@ impl<'a, S: HolderShelf> Holder<'a, S> {
         let FullHold { mut pass } = hold;
         guard.learn(&mut pass);
         let memo = told_steps::await_memo(rt, guard, &mut pass);
-        let (list, room) = told_steps::await_list(rt, guard, &mut pass);
+        let (list, room, frame) = told_steps::await_list(rt, guard, &mut pass);
         let holder = Holder {
             guard,
             pass,
             list,
+            frame,
             memo,
             lent: Lent {
                 free: false,
@@ -314,12 +316,13 @@ impl<'a, S: HolderShelf> Holder<'a, S> {
             guard,
             mut pass,
             list,
+            frame,
             memo,
             lent: _,
             renewed: _,
             due: _,
         } = self;
-        guard.return_free(&mut pass, S::of_list(list, room));
+        guard.return_free(&mut pass, S::of_list(list, room, frame));
         guard.return_memo(&mut pass, S::of_memo(memo));
         FullHold { pass }
     }

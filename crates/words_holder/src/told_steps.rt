@@ -68,7 +68,7 @@ pub(crate) fn await_list<R: Wait, S: HolderShelf>(
     rt: &R,
     guard: &Guard<S>,
     pass: &mut Pass<S>,
-) -> (FreeList, HolderRoom)
+) -> (FreeList, HolderRoom, S::Frame)
     requires own { IsLiveOf guard.now pass.old }
     requires hold { (view pass.old).shares.order ≡ Holding }
     requires knows { KnowsAll (view pass.old) }
