@@ -1,7 +1,7 @@
 -- What a pass carries stays right where what the journal tells it stays.
 use Rattle.std.proofs.Common.{◌≡◌, ℕ, ◌<◌, ap, sym, ◌∙◌}
 use Rattle.atomic_table.specs.Seated.{TableId}
-use Rattle.words_rule.specs.declared.layout.Sizes.{Sizes}
+use Rattle.words_rule.specs.declared.sizes.Sizes.{Sizes}
 use Rattle.words_rule.specs.declared.view.Draws.{Draws}
 use Rattle.words_rule.specs.Layout.{word_count}
 use Rattle.words_rule.specs.Shapes.{shape_by, shape_in}

@@ -14,8 +14,9 @@ ghost use Rattle.words_rule.specs.Closings.{IsClosingOf, known};
 
 use crate::closing::Closing;
 use crate::content::Content;
-use crate::layout::{Sizes, turn};
+use crate::layout::turn;
 use crate::seat::Guard;
+use crate::sizes::Sizes;
 use crate::view::Opening;
 use atomic_table::Table;
 use edge_bits::{
@@ -48,12 +49,7 @@ fn sizes_of(key: &Opening) -> Sizes
     ensures shape { shape_by result ≡ shape_of key.now }
     ensures heads { result.heads ≡ heads (shape_by result) }
 {
-    Sizes {
-        vars: key.vars,
-        elements: key.elements,
-        slots: key.slots,
-        heads: head_count(key.slots),
-    }
+    Sizes::new(key.vars, key.elements, key.slots, head_count(key.slots))
 }
 
 /// Writes 0, 1, 2, .. from a word on.

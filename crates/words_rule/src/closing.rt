@@ -4,7 +4,7 @@ ghost use Rattle.words_rule.specs.Layout.{heads, word_count};
 ghost use Rattle.words_rule.specs.Shapes.{shape_by, shape_in};
 ghost use Rattle.words_rule.specs.Rule.{IsBare};
 
-use crate::layout::Sizes;
+use crate::sizes::Sizes;
 use crate::view::View;
 use atomic_table::Seat;
 

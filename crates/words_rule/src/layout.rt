@@ -5,6 +5,7 @@ ghost use Rattle.words_rule.specs.Exchanges.{item, position};
 ghost use Rattle.words_rule.specs.Hands.{place_of};
 ghost use Rattle.words_rule.specs.Shapes.{shape_by};
 
+use crate::sizes::{Sizes, TURNS};
 use edge_bits::FIRST_ELEMENT;
 use function_laws::Order;
 
@@ -23,9 +24,6 @@ pub(crate) const FREE: usize = 3;
 /// The turn of the computed table.
 pub(crate) const MEMO: usize = 5;
 
-/// The turn of the first level.
-const TURNS: usize = 6;
-
 /// The slot in which the board lies.
 pub(crate) const BOARD_SLOT: usize = 0;
 
@@ -35,15 +33,6 @@ pub(crate) const FREE_SLOT: usize = 1;
 /// The slot in which the computed table lies.
 pub(crate) const MEMO_SLOT: usize = 2;
 
-/// How many variables, elements, slots and heads a table has.
-#[derive(Clone, Copy, Drop)]
-pub struct Sizes {
-    pub vars: u32,
-    pub elements: u32,
-    pub slots: u32,
-    pub heads: u32,
-}
-
 /// The turn of a level.
 pub(crate) fn turn(level: u32) -> usize
     ensures { result ≡ turn_at level }
@@ -52,14 +41,6 @@ pub(crate) fn turn(level: u32) -> usize
 }
 
 impl Sizes {
-    /// The first of the words of slots: behind the turns, the orders and the levels.
-    fn first(&self) -> usize
-        ensures { result ≡ node_at (shape_by self.now) 0 }
-    {
-        let places = self.vars as usize + self.elements as usize;
-        TURNS + 1 + places * 3
-    }
-
     /// The level word of a variable or an element.
     pub(crate) fn level(&self, var: u32) -> usize
         ensures { result ≡ order_at (shape_by self.now) (places (shape_by self.now) + place_of (shape_by self.now) var) }

@@ -5,8 +5,9 @@ ghost use Rattle.words_rule.specs.Shapes.{shape_by, shape_in};
 ghost use Rattle.words_rule.specs.Passes.{view, IsPassOf};
 
 use crate::content::Content;
-use crate::layout::{FREE, Sizes, turn};
+use crate::layout::{FREE, turn};
 use crate::seat::{Guard, Pass};
+use crate::sizes::Sizes;
 
 impl<S: Content> Guard<S> {
     /// Whether a level's turn is at home.
