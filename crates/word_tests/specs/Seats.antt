@@ -12,6 +12,7 @@ use Rattle.words_rule.specs.Passes.{in_hand, view}
 use Rattle.words_rule.specs.Views.{orders_of, told_orders}
 use Rattle.words_rule.specs.Steppers.{IsStepper, knows}
 use Rattle.words_rule.specs.Tokens.{IsFreeOf}
+use Rattle.word_tests.specs.Tidy.{IsTidy}
 use Rattle.table_shelves.specs.declared.shelf.TableShelf.{TableShelf}
 use Rattle.table_shelves.specs.Shelves.{free_of, memo_of}
 
@@ -46,3 +47,7 @@ pub record IsHeld (g : Guard TableShelf) (h : FullHold TableShelf) : Type 0 wher
   pub pins : (view h.pass).counts.pins ≡ []
   pub told : orders_of (view h.pass).known ≡ told_orders (view h.pass).known
   pub out : in_hand h.pass ≡ []
+
+-- it was just split off: it has put down all, and may take a share
+abbrev pub IsFresh : Guard TableShelf → Pass TableShelf → Type 0
+IsFresh g p = IsTidy g p × IsReady g p

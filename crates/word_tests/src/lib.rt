@@ -8,6 +8,8 @@ mod seated;
 #[cfg(test)]
 mod sweeps;
 #[cfg(test)]
+mod tables;
+#[cfg(test)]
 mod tokens;
 #[cfg(test)]
 mod widest;

@@ -1,11 +1,12 @@
 //! Operators over seats of one table, one seat and two seats in threads.
 
-ghost use Rattle.std.specs.Prelude.{◌≡◌, IfOk};
+ghost use Rattle.std.specs.Prelude.{◌≡◌};
 ghost use Rattle.words_rule.specs.Passes.{view};
 ghost use Rattle.words_rule.specs.Walkers.{besides_of};
 ghost use Rattle.word_tests.specs.Seats.{IsIdleSeat, IsReady};
 
-use edge_bits::{Memory, VALUE_END};
+use crate::tables::{Three, table_of_three};
+use edge_bits::VALUE_END;
 use node_store::{Grow, Opened, Stop};
 use std::alloc::Global;
 use std::marker::Brand;
@@ -14,10 +15,10 @@ use std::sync::Wait;
 use std::test::Fail;
 use std::thread::{Threads, join};
 use step_store::{Growing, Home};
-use table_shelves::{TableShelf, open};
+use table_shelves::TableShelf;
 use words_rule::seat::{Guard, Pass};
 use words_rule::stepper::Stepper;
-use words_rule::view::{Besides, Opening};
+use words_rule::view::Besides;
 
 /// What the leaf of a value that is not negative opens into.
 fn leaf_of<G: Grow>(store: &mut G, value: i64) -> Result<Opened, Stop> {
@@ -79,38 +80,16 @@ pub fn ask_under_share<R: Wait + Abort>(
     guard.op_out(share)
 }
 
-/// A table of three sessions, with the room for 200 leaves.
-fn three(
-    alloc: Global,
-) -> Result<
-    (
-        Guard<TableShelf>,
-        Pass<TableShelf>,
-        Pass<TableShelf>,
-        Pass<TableShelf>,
-    ),
-    Memory,
->
-    ensures { IfOk result (λ r. IsReady r.0 r.1 × IsReady r.0 r.2 × IsReady r.0 r.3) }
-{
-    let key = Opening {
-        vars: 0,
-        elements: 0,
-        slots: 205,
-        sessions: 3,
-    };
-    let (guard, mut closing) = open(alloc, &key)?;
-    let mine = guard.split(&mut closing);
-    let first = guard.split(&mut closing);
-    let second = guard.split(&mut closing);
-    Ok((guard, mine, first, second))
-}
-
 /// Two seats in threads ask for the same leaves at once: each is stored once, so that there is room for all, and none is left.
 #[test]
 fn leaves_are_stored_once(rt: HostRuntime) -> Result<(), Fail> {
     let alloc = rt.alloc();
-    let (guard, mine, first, second) = three(alloc)?;
+    let Three {
+        guard,
+        mine,
+        first,
+        second,
+    } = table_of_three(alloc, 0, 0, 205)?;
     let guard = &guard;
     let rt = &rt;
     join(

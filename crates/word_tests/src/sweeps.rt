@@ -1,12 +1,12 @@
 //! A seat sweeps under the full hold while another asks for leaves.
 
-ghost use Rattle.std.specs.Prelude.{◌≡◌, [], IfOk};
+ghost use Rattle.std.specs.Prelude.{◌≡◌, []};
 ghost use Rattle.words_rule.specs.Passes.{view};
 ghost use Rattle.word_tests.specs.Seats.{IsCalm, IsHeld, IsReady};
 
 use crate::seated::ask_under_share;
+use crate::tables::{Three, table_of_three};
 use dead_sweep::Swept;
-use edge_bits::Memory;
 use hold_calls::swept;
 use std::alloc::Global;
 use std::marker::Brand;
@@ -14,10 +14,9 @@ use std::process::Abort;
 use std::sync::Wait;
 use std::test::Fail;
 use std::thread::{Threads, join};
-use table_shelves::{TableShelf, open};
+use table_shelves::TableShelf;
 use words_holder::Holder;
 use words_rule::seat::{FullHold, Guard, Pass};
-use words_rule::view::Opening;
 
 /// A sweep under the full hold.
 fn sweep_held<R: Wait>(
@@ -87,39 +86,17 @@ fn ask_often<R: Wait + Abort>(
     mine
 }
 
-/// A table of three sessions, with the room for 200 leaves.
-fn three(
-    alloc: Global,
-) -> Result<
-    (
-        Guard<TableShelf>,
-        Pass<TableShelf>,
-        Pass<TableShelf>,
-        Pass<TableShelf>,
-    ),
-    Memory,
->
-    ensures { IfOk result (λ r. IsCalm r.0 r.1 × IsReady r.0 r.2 × IsCalm r.0 r.3) }
-{
-    let key = Opening {
-        vars: 0,
-        elements: 0,
-        slots: 205,
-        sessions: 3,
-    };
-    let (guard, mut closing) = open(alloc, &key)?;
-    let mine = guard.split(&mut closing);
-    let first = guard.split(&mut closing);
-    let second = guard.split(&mut closing);
-    Ok((guard, mine, first, second))
-}
-
 /// A seat asks for 200 leaves again and again, while another sweeps: each time all are there, though none is held, and there is room for
 /// no more; and a sweep behind both leaves the permanent slots alone.
 #[test]
 fn leaves_are_asked_for_beside_sweeps(rt: HostRuntime) -> Result<(), Fail> {
     let alloc = rt.alloc();
-    let (guard, mine, first, second) = three(alloc)?;
+    let Three {
+        guard,
+        mine,
+        first,
+        second,
+    } = table_of_three(alloc, 0, 0, 205)?;
     let guard = &guard;
     let rt = &rt;
     join(

@@ -1,17 +1,15 @@
 //! Shares and holds of one session, and what two others in threads of their own are given beside them.
 
-ghost use Rattle.std.specs.Prelude.{◌≡◌, ◌≤◌, [], IfOk};
 ghost use Rattle.word_tests.specs.Tidy.{IsTidy};
 
-use edge_bits::Memory;
+use crate::tables::{Three, table_of_three};
 use std::alloc::Global;
 use std::process::Abort;
 use std::sync::Wait;
 use std::test::Fail;
 use std::thread::{Threads, join};
-use table_shelves::{TableShelf, open};
+use table_shelves::TableShelf;
 use words_rule::seat::{Guard, Pass};
-use words_rule::view::Opening;
 
 /// Whether there was an operation share for a session. It is given back.
 fn operates(guard: &Guard<TableShelf>, pass: Pass<TableShelf>) -> (Pass<TableShelf>, bool)
@@ -133,37 +131,15 @@ fn beside_the_holds<R: Abort + Threads + Wait + Sync>(
     (guard.order_out(order), told)
 }
 
-/// A table of three sessions.
-fn three(
-    alloc: Global,
-) -> Result<
-    (
-        Guard<TableShelf>,
-        Pass<TableShelf>,
-        Pass<TableShelf>,
-        Pass<TableShelf>,
-    ),
-    Memory,
->
-    ensures { IfOk result (λ r. IsTidy r.0 r.1 × IsTidy r.0 r.2 × IsTidy r.0 r.3) }
-{
-    let key = Opening {
-        vars: 3,
-        elements: 2,
-        slots: 100,
-        sessions: 3,
-    };
-    let (guard, mut closing) = open(alloc, &key)?;
-    let mine = guard.split(&mut closing);
-    let first = guard.split(&mut closing);
-    let second = guard.split(&mut closing);
-    Ok((guard, mine, first, second))
-}
-
 /// Shares and holds exclude each other as they should, and what is given back is there again.
 #[test]
 fn shares_and_holds_stand_apart(rt: HostRuntime) -> Result<(), Fail> {
-    let (guard, mine, first, second) = three(rt.alloc())?;
+    let Three {
+        guard,
+        mine,
+        first,
+        second,
+    } = table_of_three(rt.alloc(), 3, 2, 100)?;
     let (mine, told) = beside_a_share(&rt, &guard, mine, first, second);
     let (mine, told) = beside_the_holds(&rt, &guard, mine, told.first, told.second);
     let (_, again) = beside_a_share(&rt, &guard, mine, told.first, told.second);
